@@ -56,7 +56,10 @@
  * TIME. No contract speaks of it. Every call first checks the whole table: some 50 instructions for each used row, and more where V is not
  * every state (2 ms for 28,736 rows of an ordinary table; 0.6 s for the worst table found, which was made for it). So where many records
  * are at hand, give them to one kudzuclamp_play, which checks once. R and an account's round limit bound the rounds of a set, force or
- * react, and no more than these: a formula without binders has no round, and its steps may still take long in a large table.
+ * react, and no more than these: a formula without binders has no round, and its steps may still take long in a large table. Nothing but N
+ * and the number k of moments bounds kudzuclamp_logged, which makes k sets, and k (k - 1) / 2 again to write the run: for 1,024 moments 0.3
+ * to 2 s at n = 16 in ordinary rooms, but 40 to 65 ms a set in the worst one found, which was made for it: 3 s for 32 moments, and six
+ * hours or more for 1,024, by that reckoning (thread times of the proved code at load 6 to 8, docs/BENCHMARKS.md, "Request 11").
  *
  * POINTERS. A slice is a pointer and its number of elements. No pointer may be null, not even with 0 elements. Words, accounts and lists
  * that are not const, and each answer, must overlap nothing else that is lent to the call, and no other thread may use them meanwhile; nor
@@ -118,7 +121,7 @@ struct kudzuclamp_account {
 enum kudzuclamp_number {
     KUDZUCLAMP_ANSWERED = 0,
     KUDZUCLAMP_SIZES = 1,     /* fresh: n, N or the number of words out of range; members: too many states, or too short a list; cheapest: not 8
-                                 prices, or too few work words */
+                                 prices, or too few work words; logged: not 1 to 1,024 entries, or not as many in both logs */
     KUDZUCLAMP_UNSOUND = 2,   /* the words are no sound table */
     KUDZUCLAMP_RANGE = 3,     /* register, relation or state number out of range */
     KUDZUCLAMP_SYNTAX = 4,    /* the bytes are no formula for this call */
@@ -127,7 +130,7 @@ enum kudzuclamp_number {
     KUDZUCLAMP_EMPTY = 7,     /* a register or relation named is empty */
     KUDZUCLAMP_FULL = 8,      /* a step needs more rows than N, or than the account's row limit */
     KUDZUCLAMP_SPENT = 9,     /* the rounds are used up: R's, or the account's */
-    KUDZUCLAMP_NO_RUN = 10,   /* there is no run from the one set into the other */
+    KUDZUCLAMP_NO_RUN = 10,   /* there is no run from the one set into the other, or none that fits both logs */
     KUDZUCLAMP_SHORT = 11,    /* a list is too short for the run */
     KUDZUCLAMP_VACUOUS = 12,  /* a binder's variable occurs nowhere free in its body */
     KUDZUCLAMP_OCCUPIED = 13, /* valid: a register or relation is filled */
@@ -146,7 +149,7 @@ static inline const char *kudzuclamp_text(uint32_t number)
     case KUDZUCLAMP_ANSWERED:
         return "answered";
     case KUDZUCLAMP_SIZES:
-        return "the number of bits, rows, states or prices is out of range, or there are too few words or places";
+        return "the number of bits, rows, states, prices or entries is out of range, two logs are unequal, or there are too few words or places";
     case KUDZUCLAMP_UNSOUND:
         return "the words are no sound table";
     case KUDZUCLAMP_RANGE:
@@ -164,7 +167,7 @@ static inline const char *kudzuclamp_text(uint32_t number)
     case KUDZUCLAMP_SPENT:
         return "the rounds are used up";
     case KUDZUCLAMP_NO_RUN:
-        return "there is no run from the one set into the other";
+        return "there is no such run";
     case KUDZUCLAMP_SHORT:
         return "a list is too short for the run";
     case KUDZUCLAMP_VACUOUS:
@@ -400,6 +403,39 @@ KUDZUCLAMP_USE_RESULT
 uint32_t kudzuclamp_react(uint32_t *words, size_t words_len, const struct kudzuclamp_account *accounts, size_t accounts_len, uint32_t place,
                           uint32_t most, uint32_t goal, uint32_t guest, uint32_t machine, uint32_t state, uint32_t press,
                           uint32_t *answer);
+
+/*
+ * Writes the states of a run of relation t that fits two logs to the first places of the list: of all such runs the one with the least
+ * first state, then the least second one, and so on. Both logs have k entries, 1 to 1,024; entry i of both is for state i of the run, and
+ * all its states exist (kudzuclamp_valid). An entry is a mask and a value, and a state fits it where (state & mask) == value: so a value
+ * with a bit outside its mask, or with a bit n or above, fits no state, and a mask of 0 with value 0 every state. A log is lent as 2 k
+ * numbers, mask and value of each entry in turn; kudzuclamp_fit_logs lends arrays of struct kudzuclamp_entry so. Places after the first k
+ * are never written, and none where the call is refused. No register or relation changes. A step may need at most N rows, of the set of one
+ * moment, of the steps of the moment before it and of what registers, relations and the set of existing states hold; the sets of all k
+ * moments are made before 10 is decided, also where one of them is empty. It returns 0, 1 (lengths 0, odd, above 2,048 or unequal, checked
+ * before 2), 2, 3, 7, 8, KUDZUCLAMP_NO_RUN or KUDZUCLAMP_SHORT (fewer than k places, decided after 10). TIME says how long it may take.
+ */
+KUDZUCLAMP_USE_RESULT
+uint32_t kudzuclamp_logged(uint32_t *words, size_t words_len, uint16_t *list, size_t list_len, uint32_t t, const uint16_t *one,
+                           size_t one_len, const uint16_t *two, size_t two_len);
+
+/* The most entries of a log. */
+#define KUDZUCLAMP_MAX_ENTRIES 1024
+
+/* An entry of a log: which bits were logged at its moment, and what they were. */
+struct kudzuclamp_entry {
+    uint16_t mask;
+    uint16_t value;
+};
+
+/* kudzuclamp_logged over two arrays of k entries. */
+KUDZUCLAMP_USE_RESULT
+static inline uint32_t kudzuclamp_fit_logs(uint32_t *words, size_t words_len, uint16_t *list, size_t list_len, uint32_t t,
+                                           const struct kudzuclamp_entry *one, const struct kudzuclamp_entry *two, size_t k)
+{
+    const size_t len = k > KUDZUCLAMP_MAX_ENTRIES ? 0 : 2 * k;
+    return kudzuclamp_logged(words, words_len, list, list_len, t, (const uint16_t *)one, len, (const uint16_t *)two, len);
+}
 
 /*
  * Checks formula bytes for a set call, or for a relation call where `relation` is not 0, and takes no step. It returns 2, or the number of 4 to 7

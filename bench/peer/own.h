@@ -24,5 +24,7 @@ uint32_t kudzuclamp_force(uint32_t *words, size_t size, Account *accounts, size_
                           uint32_t goal, uint32_t guest, uint32_t machine, uint32_t *node, uint32_t *rounds, uint32_t *peak);
 uint32_t kudzuclamp_react(uint32_t *words, size_t size, const Account *accounts, size_t count, uint32_t place, uint32_t most, uint32_t goal,
                           uint32_t guest, uint32_t machine, uint32_t state, uint32_t press, uint32_t *answer);
+uint32_t kudzuclamp_logged(uint32_t *words, size_t size, uint16_t *list, size_t room, uint32_t t, const uint16_t *one, size_t one_length,
+                           const uint16_t *two, size_t two_length);
 uint32_t kudzuclamp_play(uint32_t *words, size_t size, const uint8_t *bytes, size_t length, uint32_t *list, size_t room, size_t *count);
 }

@@ -3,7 +3,7 @@
 //! The entry points ask of their caller only what a Rust reference has: a pointer that is aligned
 //! and not null, to as many elements as the length says, and mutable memory that overlaps nothing
 //! else. Their contracts have no other precondition: any words, numbers and bytes are answered.
-use crate::{Account, Fare, Game, Loaded, Refusal, Stored, Strategy, Target};
+use crate::{Account, Entry, Fare, Game, Loaded, Refusal, Stored, Strategy, Target};
 
 /// The declarations of `include/kudzuclamp.h`: a slice is a pointer and then a length.
 mod library {
@@ -129,6 +129,17 @@ mod library {
             state: u32,
             press: u32,
             answer: *mut u32,
+        ) -> u32;
+        pub fn kudzuclamp_logged(
+            words: *mut u32,
+            words_len: usize,
+            list: *mut u16,
+            list_len: usize,
+            t: u32,
+            one: *const u16,
+            one_len: usize,
+            two: *const u16,
+            two_len: usize,
         ) -> u32;
         pub fn kudzuclamp_check(
             words: *const u32,
@@ -426,6 +437,32 @@ pub fn react(
         )
     };
     answered(number, answer)
+}
+
+/// Whether the states of a run that fits two logs were written to the list.
+pub fn logged(
+    words: &mut [u32],
+    list: &mut [u16],
+    t: u32,
+    one: &[Entry],
+    two: &[Entry],
+) -> Result<(), Refusal> {
+    // SAFETY: pointers and lengths are those of slices, which overlap nothing that is written; an
+    // entry is two 16-bit numbers, the mask and then the value, with nothing between or behind.
+    let number = unsafe {
+        library::kudzuclamp_logged(
+            words.as_mut_ptr(),
+            words.len(),
+            list.as_mut_ptr(),
+            list.len(),
+            t,
+            one.as_ptr().cast::<u16>(),
+            2 * one.len(),
+            two.as_ptr().cast::<u16>(),
+            2 * two.len(),
+        )
+    };
+    answered(number, ())
 }
 
 /// The checks of formula bytes for a relation call, or else for a set call.

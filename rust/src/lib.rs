@@ -53,6 +53,7 @@ mod account;
 mod check;
 mod display;
 mod dot;
+mod entry;
 mod fault;
 mod formula;
 mod game;
@@ -69,6 +70,7 @@ mod target;
 mod token;
 
 pub use account::{Account, MAX_ACCOUNTS};
+pub use entry::{Entry, MAX_ENTRIES};
 pub use fault::{Fault, FaultKind};
 pub use formula::{AsFormula, Formula};
 pub use game::{Game, Strategy};

@@ -20,7 +20,8 @@ use std::fmt;
 pub enum Refusal {
     /// 1: fresh was given a number of bits or rows out of range, or too few words; a question for
     /// many states too many of them, or too short a list; or one for a cheapest run not eight prices,
-    /// or, directly after 2, too few work words.
+    /// or, directly after 2, too few work words; or two logs have not the same number of entries, 1 to
+    /// 1,024.
     Sizes = 1,
     /// 2: the words are no sound table.
     Unsound = 2,
@@ -38,7 +39,7 @@ pub enum Refusal {
     Full = 8,
     /// 9: the rounds are used up: those of the call, or those of the account.
     Spent = 9,
-    /// 10: there is no run from the one set into the other.
+    /// 10: there is no run from the one set into the other, or none that fits both logs.
     NoRun = 10,
     /// 11: a list is too short for the run.
     Short = 11,
@@ -101,7 +102,7 @@ impl fmt::Display for Refusal {
     fn fmt(&self, f: &mut fmt::Formatter<'_>) -> fmt::Result {
         f.write_str(match self {
             Refusal::Sizes => {
-                "the number of bits, rows, states or prices is out of range, or there are too few words or places"
+                "the number of bits, rows, states, prices or entries is out of range, two logs are unequal, or there are too few words or places"
             }
             Refusal::Unsound => "the words are no sound table",
             Refusal::Range => "a register, relation or state number is out of range",
@@ -111,7 +112,7 @@ impl fmt::Display for Refusal {
             Refusal::Empty => "a register or relation named is empty",
             Refusal::Full => "a step needs more rows than the table has or the account may use",
             Refusal::Spent => "the rounds are used up",
-            Refusal::NoRun => "there is no run from the one set into the other",
+            Refusal::NoRun => "there is no such run",
             Refusal::Short => "a list is too short for the run",
             Refusal::Vacuous => "a binder's variable occurs nowhere free in its body",
             Refusal::Occupied => "a register or relation is filled",

@@ -1,7 +1,7 @@
 //! The table over lent or owned words.
 use crate::check::{self, Call};
 use crate::layout::{self, BITS, FIRST_REGISTER, ROWS};
-use crate::{abi, dot, least, Account, AsFormula, Game, Names, Refusal, Refused, States};
+use crate::{abi, dot, least, Account, AsFormula, Entry, Game, Names, Refusal, Refused, States};
 use crate::{Strategy, Target};
 
 /// The greatest number of state bits of a table.
@@ -478,6 +478,52 @@ impl<W: AsRef<[u32]> + AsMut<[u32]>> Table<W> {
     ) -> Result<usize, Refusal> {
         let states = abi::shortest(self.words.as_mut(), list, a, b, t)?;
         Ok(states as usize)
+    }
+
+    /// The states of a run of relation t that fits two logs: entry i of both is for state i. Of all
+    /// such runs it is the one with the least first state, then the least second one, and so on.
+    /// Refused with [`Refusal::NoRun`] where there is none, and with [`Refusal::Sizes`] where the
+    /// logs have not the same number of entries, 1 to [`MAX_ENTRIES`](crate::MAX_ENTRIES). No
+    /// register or relation changes.
+    ///
+    /// ```
+    /// use kudzuclamp::{Account, Entry, Formula, Refusal, Table};
+    ///
+    /// # fn main() -> Result<(), Refusal> {
+    /// // Two switches; each press turns one of them over.
+    /// let mut accounts = [Account::unlimited()];
+    /// let mut table = Table::new(&mut accounts, 2, 100)?;
+    /// let press = |p, other| Formula::turns(p) & Formula::keeps(other);
+    /// table.relation(0, press(0, 1) | press(1, 0))?;
+    /// // One unit logs the first switch, another the second, and neither at every moment.
+    /// let (none, bit) = (Entry::none(), |p, on| Entry::none().bit(p, on));
+    /// let first = [bit(0, false), bit(0, true), none];
+    /// let second = [none, none, bit(1, true)];
+    /// assert_eq!(table.logged(0, &first, &second)?, [0, 1, 3]);
+    /// // Both switches on, and at the next moment both off: two presses, not one.
+    /// let both = [bit(0, true), bit(0, false)];
+    /// let other = [bit(1, true), bit(1, false)];
+    /// assert_eq!(table.logged(0, &both, &other), Err(Refusal::NoRun));
+    /// # Ok(())
+    /// # }
+    /// ```
+    pub fn logged(&mut self, t: u32, one: &[Entry], two: &[Entry]) -> Result<Vec<u16>, Refusal> {
+        let mut list = vec![0; one.len()];
+        self.write_logged(&mut list, t, one, two)?;
+        Ok(list)
+    }
+
+    /// Writes the states that [`Table::logged`] gives to the first places of a list; later places
+    /// are never written, and none where the call is refused. Refused with [`Refusal::Short`] where
+    /// the list has fewer places than the logs have entries.
+    pub fn write_logged(
+        &mut self,
+        list: &mut [u16],
+        t: u32,
+        one: &[Entry],
+        two: &[Entry],
+    ) -> Result<(), Refusal> {
+        abi::logged(self.words.as_mut(), list, t, one, two)
     }
 
     /// The words, to change at will: the next call refuses with [`Refusal::Unsound`] where they are

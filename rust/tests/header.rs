@@ -1,5 +1,5 @@
 //! The C header says the same as this crate: version, sizes, refusals and their texts.
-use kudzuclamp::{Refusal, MAX_ACCOUNTS, MAX_BITS, MAX_ROWS, REGISTERS, RELATIONS};
+use kudzuclamp::{Refusal, MAX_ACCOUNTS, MAX_BITS, MAX_ENTRIES, MAX_ROWS, REGISTERS, RELATIONS};
 
 const HEADER: &str = include_str!("../include/kudzuclamp.h");
 
@@ -20,6 +20,7 @@ fn version_and_sizes() {
         ("KUDZUCLAMP_REGISTERS", REGISTERS),
         ("KUDZUCLAMP_RELATIONS", RELATIONS),
         ("KUDZUCLAMP_MAX_ACCOUNTS", MAX_ACCOUNTS as u32),
+        ("KUDZUCLAMP_MAX_ENTRIES", MAX_ENTRIES as u32),
     ];
     for (name, size) in sizes {
         assert_eq!(defined(name), size.to_string());

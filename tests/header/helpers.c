@@ -141,6 +141,30 @@ static void texts(void)
     HOLDS(strcmp(kudzuclamp_text(UINT32_MAX), kudzuclamp_text(99)) == 0);
 }
 
+/* One bit that each press turns over; of two logs one knows it at the first moment, the other at the last. */
+static void logs(void)
+{
+    static uint32_t words[KUDZUCLAMP_WORDS(50)];
+    static const struct kudzuclamp_entry one[KUDZUCLAMP_MAX_ENTRIES + 1] = {{1, 1}}, two[KUDZUCLAMP_MAX_ENTRIES + 1] = {{0, 0}, {0, 0}, {1, 1}};
+    const size_t words_len = sizeof words / sizeof *words;
+    static const uint8_t turn[] = {KUDZUCLAMP_TURNS(0)};
+    struct kudzuclamp_account account = {UINT32_MAX, UINT32_MAX, 0};
+    uint8_t bytes[KUDZUCLAMP_FRAMED(sizeof turn)];
+    uint16_t list[4] = {9, 9, 9, 9};
+    uint32_t peak;
+    size_t length = kudzuclamp_frame(bytes, sizeof bytes, turn, sizeof turn);
+    HOLDS(kudzuclamp_fresh(words, words_len, &account, 1, 1, 50) == KUDZUCLAMP_ANSWERED);
+    HOLDS(kudzuclamp_relation(words, words_len, 0, bytes, length, &peak) == KUDZUCLAMP_ANSWERED);
+    HOLDS(kudzuclamp_fit_logs(words, words_len, list, 4, 0, one, two, 3) == KUDZUCLAMP_ANSWERED);
+    HOLDS(list[0] == 1 && list[1] == 0 && list[2] == 1 && list[3] == 9);
+    HOLDS(kudzuclamp_fit_logs(words, words_len, list, 4, 0, one, two + 1, 2) == KUDZUCLAMP_NO_RUN);
+    HOLDS(kudzuclamp_fit_logs(words, words_len, list, 2, 0, one, two, 3) == KUDZUCLAMP_SHORT);
+    HOLDS(kudzuclamp_fit_logs(words, words_len, list, 4, 0, one, two, 0) == KUDZUCLAMP_SIZES);
+    HOLDS(kudzuclamp_fit_logs(words, words_len, list, 4, 0, one, two, KUDZUCLAMP_MAX_ENTRIES + 1) == KUDZUCLAMP_SIZES);
+    HOLDS(kudzuclamp_fit_logs(words, words_len, list, 4, 0, one, two, SIZE_MAX / 2 + 2) == KUDZUCLAMP_SIZES);
+    HOLDS(list[0] == 1 && list[1] == 0 && list[2] == 1 && list[3] == 9);
+}
+
 static void version(void)
 {
     char parts[40];
@@ -182,6 +206,7 @@ int main(void)
     games();
     texts();
     memory();
+    logs();
     version();
     return failed;
 }

@@ -53,6 +53,15 @@ static void *react(void *number)
     return NULL;
 }
 
+static uint16_t nothing[2 * KUDZUCLAMP_MAX_ENTRIES];
+
+/* A run of a hundred states of which nothing was logged. */
+static void *logged(void *number)
+{
+    *(uint32_t *)number = kudzuclamp_logged(words, KUDZUCLAMP_WORDS(ROWS), states, STATES, 0, nothing, 200, nothing, 200);
+    return NULL;
+}
+
 /* The bytes of stack that a call takes; 0 where it is refused, but by 7 or 10, which a cheapest run gives after the check. */
 static size_t used_stack(void *(*call)(void *))
 {
@@ -152,7 +161,7 @@ static size_t all_bits(uint8_t *framed, size_t framed_len, const uint8_t *patter
 }
 
 /* Whether a cheapest run from the state with no bit on to that with all takes less than so many bytes, and a game over the same relation,
-   for both sides, with all bits on as its goal. In that relation bits only turn on, and it has a row on every level. */
+   for both sides, with all bits on as its goal, and a run of it that fits two logs. In that relation bits only turn on, and it has a row on every level. */
 static int searched(size_t most)
 {
     static const uint8_t rising[] = {KUDZUCLAMP_OR, KUDZUCLAMP_NOT, KUDZUCLAMP_NOW(0), KUDZUCLAMP_NEXT(0)};
@@ -160,7 +169,7 @@ static int searched(size_t most)
     struct kudzuclamp_account account = {UINT32_MAX, UINT32_MAX, 0};
     uint8_t framed[KUDZUCLAMP_FRAMED(KUDZUCLAMP_MAX_FORMULA)];
     uint32_t node, rounds, peak;
-    size_t used, forced, reacted;
+    size_t used, forced, reacted, fitted;
     if (kudzuclamp_fresh(words, KUDZUCLAMP_WORDS(ROWS), &account, 1, 16, ROWS) != 0 ||
         kudzuclamp_relation(words, KUDZUCLAMP_WORDS(ROWS), 0, framed, all_bits(framed, sizeof framed, rising, sizeof rising), &peak) != 0 ||
         kudzuclamp_set(words, KUDZUCLAMP_WORDS(ROWS), &account, 1, 0, 0, 0, framed, all_bits(framed, sizeof framed, off, sizeof off), &node, &rounds,
@@ -171,9 +180,10 @@ static int searched(size_t most)
     used = used_stack(cheapest);
     forced = used_stack(force);
     reacted = used_stack(react);
-    printf("a cheapest run: %lu bytes of stack; force: %lu; react: %lu\n", (unsigned long)used, (unsigned long)forced,
-           (unsigned long)reacted);
-    return used != 0 && used < most && forced != 0 && forced < most && reacted != 0 && reacted < most;
+    fitted = used_stack(logged);
+    printf("a cheapest run: %lu bytes of stack; force: %lu; react: %lu; logged: %lu\n", (unsigned long)used, (unsigned long)forced,
+           (unsigned long)reacted, (unsigned long)fitted);
+    return used != 0 && used < most && forced != 0 && forced < most && reacted != 0 && reacted < most && fitted != 0 && fitted < most;
 }
 
 int main(void)

@@ -19,6 +19,7 @@ use layout::Refusal;
 use layout::Table;
 use layout::header_word;
 use layout::refusal_number;
+use moments::Logged;
 use player::Played;
 use routes::Found;
 use soundness::sound;
@@ -31,6 +32,7 @@ ghost use Rattle.coins.specs.Post.{FarePost};
 ghost use Rattle.contract.specs.Posts.{CallPost, AskPost, SetAllPost};
 ghost use Rattle.formula_steps.specs.Replies.{storedReply};
 ghost use Rattle.game_calls.specs.Post.{ReactPost};
+ghost use Rattle.log_calls.specs.Post.{LogPost};
 ghost use Rattle.path_calls.specs.Post.{PathPost};
 ghost use Rattle.exports.specs.Given.{given, fareGiven, FreshGiven};
 ghost use Rattle.exports.specs.Games.{ForceAllPost, ReactAllPost};
@@ -390,6 +392,26 @@ pub extern "C" fn kudzuclamp_react(
         press,
         answer,
     )
+}
+
+// Writes the states of the run of relation t that fits two logs, and is least at each place, to the list. A log is a mask and a value for
+// each moment, one after the other.
+#[no_mangle]
+pub extern "C" fn kudzuclamp_logged(
+    words: &mut [u32],
+    list: &mut [u16],
+    t: u32,
+    one: &[u16],
+    two: &[u16],
+) -> u32
+    ensures { λ k. ⌜ LogPost t (now (one .entry)) (now (two .entry)) (now (words .entry)) (now (words .exit))
+        (now (list .entry)) (now (list .exit)) (given k 0 0 0) ⌝ }
+{
+    let x = log_calls::logged(words, list, t, one, two);
+    match x {
+        Logged::Done => 0,
+        Logged::Refused(e) => refusal_number(e),
+    }
 }
 
 // The call that formula bytes are for: set at 0, else relation.

@@ -45,13 +45,13 @@ use Rattle.paths.specs.Runs.{layerNeeds}
 use Rattle.layers.specs.Next.{NextPre, uncounted, NextPost}
 
 -- a root at the front or at the end
-alike-end : {A : Type 0} (xs : List A) (x : A) → Alike (x ∷ xs) (xs ++ (x ∷ []))
+pub alike-end : {A : Type 0} (xs : List A) (x : A) → Alike (x ∷ xs) (xs ++ (x ∷ []))
 alike-end {A} xs x = record {
   to = λ a h. ⊎-elim (λ e. append-right xs (here e)) (λ i. append-left {s = xs} (x ∷ []) i) (mem-cases h);
   from = λ a h. ⊎-elim (λ i. there i) (λ j. ⊎-elim (λ e. here e) (λ n. absurd (mem-nil n)) (mem-cases j)) (append-cases xs h);
 }
 
-and-true : (b : Bool) → (b && true) ≡ b
+pub and-true : (b : Bool) → (b && true) ≡ b
 and-true true = refl
 and-true false = refl
 

@@ -60,7 +60,7 @@ pub set-holds : (n : ℕ) (X : View) {x : ℕ} (A : List Bool) → 2 * n ≡ 2 *
 set-holds n X {x} A e d s l =
     subst (λ (m : ℕ). den m (rowsOf X) x (pairVal s 0) ≡ mem A s) e (d .same (pairVal s 0) ∙ ap (mem A) (nowOf-pairVal n s 0 l))
 
-both-mem : (n : ℕ) (W X : View) {a x : ℕ} (A L : List Bool) → 2 * n ≡ 2 * X .header BITS → Denotes (2 * n) (rowsOf X) a (fnOf n A)
+pub both-mem : (n : ℕ) (W X : View) {a x : ℕ} (A L : List Bool) → 2 * n ≡ 2 * X .header BITS → Denotes (2 * n) (rowsOf X) a (fnOf n A)
     → Denotes (2 * n) (rowsOf X) x (fnOf n L)
     → (s : ℕ) → s < 2 ^ n → inBoth X a x s ≡ (mem A s && mem L s)
 both-mem n W X A L e da dx s l = ap₂ _&&_ (set-holds n X A e da s l) (set-holds n X L e dx s l)

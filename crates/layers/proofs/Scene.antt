@@ -46,12 +46,12 @@ pub layer-sized : {n : ℕ} {W : View} {t b : ℕ} (S : Scene n W t b) (i : ℕ)
 layer-sized S zero = S .sized
 layer-sized S (suc i) = length-table _ _
 
-matches-at : (n : ℕ) (rows : Rows) {F : Fn} {a : ℕ} (c q : Count) (b : Bool) → PairMatches n rows b F c (at a) q
+pub matches-at : (n : ℕ) (rows : Rows) {F : Fn} {a : ℕ} (c q : Count) (b : Bool) → PairMatches n rows b F c (at a) q
     → (b ≡ true) × Denotes (2 * n) rows a F
 matches-at n rows c q true m = (refl, m .0)
 matches-at n rows c q false m = absurd m
 
-matches-full : (n : ℕ) (rows : Rows) (F : Fn) (c q : Count) (b : Bool) → PairMatches n rows b F c noRows q → b ≡ false
+pub matches-full : (n : ℕ) (rows : Rows) (F : Fn) (c q : Count) (b : Bool) → PairMatches n rows b F c noRows q → b ≡ false
 matches-full n rows F c q true m = absurd m
 matches-full n rows F c q false m = refl
 

@@ -150,7 +150,15 @@ module _ {a b t : ℕ} (old : List ℕ) (s : SoundWords old) (r : InRange a b t)
   names = record { a-in = r .0; a-is = omega arith; b-in = r .1; b-is = omega arith; t-in = r .2; t-is = omega arith }
 
   pub call-asks : SearchPre bits rows rows (view rows old) (z - 1) (x - 1) (y - 1)
-  call-asks = rw er (record { sound = s; bits = eb; rows = refl; limit-le = omega arith; ra = a; rb = b; rt = t; named = names })
+  call-asks =
+      rw er
+      (record {
+        opens = record { sound = s; bits = eb; rows = refl; limit-le = omega arith };
+        ra = a;
+        rb = b;
+        rt = t;
+        named = names;
+      })
 
   -- the book's own outcome
   abbrev bookOutcome : List ℕ → Outcome

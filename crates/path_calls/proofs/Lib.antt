@@ -1,4 +1,5 @@
 -- Modules that belong to no one function.
+pub mod Opened
 pub mod Searching
 pub mod Checks
 pub mod OnePath

@@ -23,7 +23,7 @@ use Rattle.path_calls.specs.Post.{PathPost}
 use Rattle.path_calls.specs.OnePath.{OnePath}
 
 -- a word that is not free is not changed
-fixed : (h : ℕ) (y : Reply) → freeWord h ≡ false → changes collect y h ≡ false
+pub fixed : (h : ℕ) (y : Reply) → freeWord h ≡ false → changes collect y h ≡ false
 fixed h y e = ap (λ (x : Bool). x || (eqb (y .number) 0 && false)) e ∙ none (eqb (y .number) 0)
   where
     none : (x : Bool) → (x && false) ≡ false

@@ -1,5 +1,6 @@
--- ONE ANSWER: on the same words and the same list the call's contract allows one answer, but for what document 01 frees: two replies, two
--- lists and two ends that it allows agree in all parts below. Words need not be sound, nor is that decided. Assumes nothing.
+-- ONE ANSWER of a call that writes a run to a lent list: on the same words and the same list its contract allows one answer, but for what
+-- document 01 frees: two replies, two lists and two ends that it allows agree in all parts below. Words need not be sound, nor is that
+-- decided. Assumes nothing.
 use mathlib.Core.Path.{_≡_}
 use mathlib.Core.Bool.{false}
 use mathlib.Core.List.{List}

@@ -31,11 +31,15 @@ pub record Named (W : View) (ra rb rt a b t : ℕ) : Type 0 where
   pub t-in : rt < relations
   pub t-is : W .header (FIRST-RELATION + rt) ≡ suc t
 
-pub record SearchPre (n N limit : ℕ) (W : View) (t a b : ℕ) : Type 0 where
+-- a sound table of these sizes
+pub record Opens (n N limit : ℕ) (W : View) : Type 0 where
   pub sound : Sound W
   pub bits : n ≡ W .header BITS
   pub rows : N ≡ W .rows
   pub limit-le : limit ≤ N
+
+pub record SearchPre (n N limit : ℕ) (W : View) (t a b : ℕ) : Type 0 where
+  pub opens : Opens n N limit W
   pub ra : ℕ
   pub rb : ℕ
   pub rt : ℕ

@@ -1,11 +1,16 @@
--- The least number that passes a test. Assumes nothing.
+-- The least number that passes a test; the least next state in a set. Assumes nothing.
 use mathlib.Core.Path.{_≡_, refl, sym, ap₂, subst}
-use mathlib.Core.Bool.{Bool, true, false, cond}
+use mathlib.Core.Bool.{Bool, true, false, cond, _&&_}
+use mathlib.Core.List.{List}
 use Prim.Native.Nat.{ℕ, zero, suc, _≤_, _<_}
 use native.Mathlib.Nat.{lt-of-not-le}
 use native.Mathlib.Omega.{arith}
 use lib.Dec.{T}
-use Rattle.paths.specs.Runs.{firstOf}
+use Rattle.mucalculus.specs.Sets.{mem}
+use Rattle.mucalculus.proofs.Sets.{and-in, and-out}
+use Rattle.mucalculus.specs.Form.{Pairs}
+use Rattle.mucalculus.specs.Means.{pair}
+use Rattle.paths.specs.Runs.{firstOf, toward}
 
 -- it is at most k
 pub first-le : (k : ℕ) (q : ℕ → Bool) → firstOf k q ≤ k
@@ -57,3 +62,22 @@ first-same zero q r h = refl
 first-same (suc k) q r h =
     ap₂ (λ (b : Bool) (m : ℕ). cond b zero (suc m)) (h zero (omega arith))
     (first-same k (λ i. q (suc i)) (λ i. r (suc i)) (λ i l. h (suc i) (omega arith)))
+
+-- ---- the least next state
+
+-- t is a next state of s in X
+pub record Onto (k : ℕ) (R : Pairs) (X : List Bool) (s t : ℕ) : Type 0 where
+  pub state : t < k
+  pub next : T (pair R s t)
+  pub inside : T (mem X t)
+
+module _ {k : ℕ} {R : Pairs} {X : List Bool} {s t : ℕ} (h : Onto k R X s t) where
+  -- where there is one, none is less than the one that is taken
+  pub toward-least : toward k R X s ≤ t
+  toward-least = first-least k (λ t. pair R s t && mem X t) t (h .state) (and-in (pair R s t) _ (h .next) (h .inside))
+
+  pub toward-is : Onto k R X s (toward k R X s)
+  toward-is =
+      let b : toward k R X s < k = let l = toward-least in omega (arith, l, h .state) in
+      let w = and-out (pair R s (toward k R X s)) _ (first-found k (λ t. pair R s t && mem X t) b) in
+      record { state = b; next = w .0; inside = w .1 }

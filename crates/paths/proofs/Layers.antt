@@ -19,17 +19,31 @@ use Rattle.mucalculus.specs.Means.{pair, union, sometimes}
 use Rattle.mucalculus.proofs.Laws.{table-out}
 use Rattle.book.proofs.Diamond.{table-in}
 use Rattle.paths.specs.Runs.{runsInto, isRun, layer, common, meets, still, lastLayer}
-use Rattle.paths.proofs.First.{first-found, first-least}
+use Rattle.paths.proofs.First.{first-found, first-least, Onto}
 
 -- a run's first state is below k
 pub run-lt : (k : ℕ) (R : Pairs) (B : List Bool) (s : ℕ) (l : List ℕ) → T (runsInto k R B s l) → s < k
 run-lt k R B s [] t = ltb→lt s k (and-out (ltb s k) _ t .0)
 run-lt k R B s (u ∷ l) t = ltb→lt s k (and-out (ltb s k) _ t .0)
 
+-- a state has a next state in L
+pub next-in : (k : ℕ) (R : Pairs) (L : List Bool) (s t : ℕ) → s < k → Onto k R L s t → T (mem (sometimes k R L) s)
+next-in k R L s t l o =
+    let h : ℕ → Bool = λ s. any (λ t. pair R s t && mem L t) (table k (λ t. t)) in
+    subst T (sym (mem-table k h s))
+    (and-in (ltb s k) _ (lt→ltb s k l)
+    (any-in (λ t. pair R s t && mem L t) (table-in k (λ t. t) t (o .state)) (and-in (pair R s t) _ (o .next) (o .inside))))
+
+pub next-out : (k : ℕ) (R : Pairs) (L : List Bool) (s : ℕ) → T (mem (sometimes k R L) s) → (t : ℕ) × Onto k R L s t
+next-out k R L s x =
+    let h : ℕ → Bool = λ s. any (λ t. pair R s t && mem L t) (table k (λ t. t)) in
+    let w = any-out (λ t. pair R s t && mem L t) (table k (λ t. t)) (and-out (ltb s k) _ (subst T (mem-table k h s) x) .1) in
+    let b = and-out (pair R s (w .0)) (mem L (w .0)) (w .2) in
+    (w .0, record { state = table-out k (λ t. t) (λ t. t < k) (λ t l. l) (w .0) (w .1); next = b .0; inside = b .1 })
+
 module _ (k : ℕ) (R : Pairs) (B : List Bool) where
   -- what is in layer j + 1: B, and what has a next state in layer j
-  pub layer-suc : (j s : ℕ) → T (mem (layer k R B (suc j)) s)
-      → T (mem B s) ⊎ ((t : ℕ) × (t < k) × T (pair R s t) × T (mem (layer k R B j) t))
+  pub layer-suc : (j s : ℕ) → T (mem (layer k R B (suc j)) s) → T (mem B s) ⊎ ((t : ℕ) × Onto k R (layer k R B j) s t)
   layer-suc j s p =
       go (or-out (mem B s) (mem (sometimes k R L) s)
       (and-out (ltb s k) _ (subst T (mem-table k (λ s. mem B s || mem (sometimes k R L) s) s) p) .1))
@@ -37,13 +51,9 @@ module _ (k : ℕ) (R : Pairs) (B : List Bool) where
       L : List Bool
       L = layer k R B j
 
-      go : T (mem B s) ⊎ T (mem (sometimes k R L) s) → T (mem B s) ⊎ ((t : ℕ) × (t < k) × T (pair R s t) × T (mem L t))
+      go : T (mem B s) ⊎ T (mem (sometimes k R L) s) → T (mem B s) ⊎ ((t : ℕ) × Onto k R L s t)
       go (inl t) = inl t
-      go (inr t) =
-          let h : ℕ → Bool = λ s. any (λ t. pair R s t && mem L t) (table k (λ t. t)) in
-          let w = any-out (λ t. pair R s t && mem L t) (table k (λ t. t)) (and-out (ltb s k) _ (subst T (mem-table k h s) t) .1) in
-          let b = and-out (pair R s (w .0)) (mem L (w .0)) (w .2) in
-          inr (w .0, table-out k (λ t. t) (λ t. t < k) (λ t l. l) (w .0) (w .1), b .0, b .1)
+      go (inr t) = inr (next-out k R L s t)
 
   suc-layer : (j s : ℕ) → s < k → T (mem B s || mem (sometimes k R (layer k R B j)) s) → T (mem (layer k R B (suc j)) s)
   suc-layer j s l t =
@@ -53,26 +63,21 @@ module _ (k : ℕ) (R : Pairs) (B : List Bool) where
   layer-here zero s l t = t
   layer-here (suc j) s l t = suc-layer j s l (or-left (mem B s) _ t)
 
-  pub layer-step : (j s t : ℕ) → s < k → t < k → T (pair R s t) → T (mem (layer k R B j) t) → T (mem (layer k R B (suc j)) s)
-  layer-step j s t l i p q =
-      let L = layer k R B j in
-      let h : ℕ → Bool = λ s. any (λ t. pair R s t && mem L t) (table k (λ t. t)) in
-      suc-layer j s l
-      (or-right (mem B s) _
-      (subst T (sym (mem-table k h s))
-      (and-in (ltb s k) _ (lt→ltb s k l) (any-in (λ t. pair R s t && mem L t) (table-in k (λ t. t) t i) (and-in (pair R s t) _ p q)))))
+  pub layer-step : (j s t : ℕ) → s < k → Onto k R (layer k R B j) s t → T (mem (layer k R B (suc j)) s)
+  layer-step j s t l o = suc-layer j s l (or-right (mem B s) _ (next-in k R (layer k R B j) s t l o))
 
   -- a state of layer j has a run into B of at most j steps
   pub layer-out : (j s : ℕ) → s < k → T (mem (layer k R B j) s) → (l : List ℕ) × (length l ≤ j) × T (runsInto k R B s l)
   layer-out zero s l t = ([], omega arith, and-in (ltb s k) _ (lt→ltb s k l) t)
   layer-out (suc j) s l t = go (layer-suc j s t) (λ u i p. layer-out j u i p)
     where
-      go : T (mem B s) ⊎ ((t : ℕ) × (t < k) × T (pair R s t) × T (mem (layer k R B j) t))
+      go : T (mem B s) ⊎ ((t : ℕ) × Onto k R (layer k R B j) s t)
           → ((u : ℕ) → u < k → T (mem (layer k R B j) u) → (l : List ℕ) × (length l ≤ j) × T (runsInto k R B u l))
           → (l : List ℕ) × (length l ≤ suc j) × T (runsInto k R B s l)
       go (inl b) below = ([], omega arith, and-in (ltb s k) _ (lt→ltb s k l) b)
-      go (inr (u, i, p, q)) below =
-          let w = below u i q in (u ∷ w .0, suc-le-suc (w .1), and-in (ltb s k) _ (lt→ltb s k l) (and-in (pair R s u) _ p (w .2)))
+      go (inr (u, o)) below =
+          let w = below u (o .state) (o .inside) in
+          (u ∷ w .0, suc-le-suc (w .1), and-in (ltb s k) _ (lt→ltb s k l) (and-in (pair R s u) _ (o .next) (w .2)))
 
   -- and a state with such a run is in layer j
   pub layer-in : (j s : ℕ) (l : List ℕ) → length l ≤ j → T (runsInto k R B s l) → T (mem (layer k R B j) s)
@@ -81,7 +86,8 @@ module _ (k : ℕ) (R : Pairs) (B : List Bool) where
   layer-in (suc j) s (u ∷ l) i t =
       let w = and-out (ltb s k) _ t in
       let v = and-out (pair R s u) _ (w .1) in
-      layer-step j s u (ltb→lt s k (w .0)) (run-lt k R B u l (v .1)) (v .0) (layer-in j u l (omega arith) (v .1))
+      layer-step j s u (ltb→lt s k (w .0))
+      (record { state = run-lt k R B u l (v .1); next = v .0; inside = layer-in j u l (omega arith) (v .1) })
 
   pub layer-grows : (i j s : ℕ) → i ≤ j → s < k → T (mem (layer k R B i) s) → T (mem (layer k R B j) s)
   layer-grows i j s h l t = let w = layer-out i s l t in layer-in j s (w .0) (omega (arith, w .1)) (w .2)

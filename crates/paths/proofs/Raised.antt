@@ -12,7 +12,7 @@ use Rattle.book.specs.Book.{Book, registers, relations, liveOf}
 use Rattle.book.specs.Run.{fit}
 use Rattle.book.specs.Raised.{withRowCount}
 use Rattle.paths.specs.Runs.{pathNeeds, Outcome, full}
-use Rattle.paths.specs.Call.{refuse, ends, overFilled, shortest}
+use Rattle.paths.specs.Call.{Ended, refuse, ends, overFilled, shortest}
 
 -- what fits in N rows fits in more
 pub fit-more : (N M : ℕ) → N ≤ M → (ks : List ℕ) → T (fit N ks) → T (fit M ks)
@@ -22,21 +22,21 @@ fit-more N M l (k ∷ ks) t =
     let h = leb→le k N (w .0) in
     and-in (leb k M) _ (le→leb k M (omega arith)) (fit-more N M l ks (w .1))
 
-module _ (M : ℕ) (list : List ℕ) where
-  -- the outcome decided by fitting alone
-  by-fit : (s t : Bool) (o : Outcome) → (T s → T t) → (ends (cond s o full) list .reply .number ≡ 8 → ⊥)
-      → ends (cond t o full) list ≡ ends (cond s o full) list
-  by-fit true true o h z = refl
-  by-fit true false o h z = absurd (h tt)
-  by-fit false t o h z = absurd (z refl)
+-- what an outcome comes to is decided by fitting alone
+pub by-fit : (tell : Outcome → Ended) → tell full .reply .number ≡ 8 → (s t : Bool) (o : Outcome) → (T s → T t)
+    → (tell (cond s o full) .reply .number ≡ 8 → ⊥) → tell (cond t o full) ≡ tell (cond s o full)
+by-fit tell e true true o h z = refl
+by-fit tell e true false o h z = absurd (h tt)
+by-fit tell e false t o h z = absurd (z e)
 
+module _ (M : ℕ) (list : List ℕ) where
   filled-more : (b : Book) → b .N ≤ M → (x y : Option (List Bool)) (r : Option Pairs) → (overFilled b x y r list .reply .number ≡ 8 → ⊥)
       → overFilled (withRowCount b M) x y r list ≡ overFilled b x y r list
   filled-more b l none y r z = refl
   filled-more b l (some A) none r z = refl
   filled-more b l (some A) (some B) none z = refl
   filled-more b l (some A) (some B) (some R) z =
-      by-fit (fit (b .N) (pathNeeds (b .n) (liveOf b) R A B)) (fit M (pathNeeds (b .n) (liveOf b) R A B)) _
+      by-fit (λ o. ends o list) refl (fit (b .N) (pathNeeds (b .n) (liveOf b) R A B)) (fit M (pathNeeds (b .n) (liveOf b) R A B)) _
       (fit-more (b .N) M l (pathNeeds (b .n) (liveOf b) R A B)) z
 
   -- A SHORTEST RUN THAT IS NOT FULL is told alike with more rows: the same reply, refusals 10 and 11 too, and the same list

@@ -12,47 +12,35 @@ use Rattle.mucalculus.specs.Sets.{mem}
 use Rattle.mucalculus.proofs.Sets.{and-in, and-out}
 use Rattle.mucalculus.specs.Form.{Pairs}
 use Rattle.mucalculus.specs.Means.{pair}
-use Rattle.paths.specs.Runs.{runsInto, isRun, Least, Shortest, layer, firstOf, common, meets, lastLayer, onward, route}
-use Rattle.paths.proofs.First.{first-found, first-least}
+use Rattle.paths.specs.Runs.{runsInto, isRun, Least, Shortest, layer, common, meets, lastLayer, toward, onward, route}
+use Rattle.paths.proofs.First.{first-least, Onto, toward-least, toward-is}
 use Rattle.paths.proofs.Layers.{run-lt, layer-out, layer-in, meets-out, last-shortest}
 
 module _ (k : ℕ) (R : Pairs) (B : List Bool) where
   -- the next state that is taken from s towards layer d
   abbrev pub towards : ℕ → ℕ → ℕ
-  towards d s = firstOf k (λ t. pair R s t && mem (layer k R B d) t)
+  towards d s = toward k R (layer k R B d) s
 
   -- no run from s into B has fewer than d steps
   abbrev Far : ℕ → ℕ → Type 0
   Far d s = (l : List ℕ) → T (runsInto k R B s l) → d ≤ length l
 
-  -- t is a next state of s in layer d
-  pub record Nearer (d s t : ℕ) : Type 0 where
-    pub state : t < k
-    pub next : T (pair R s t)
-    pub inside : T (mem (layer k R B d) t)
-
-  nearer-of : (d s : ℕ) (l : List ℕ) → length l ≤ suc d → suc d ≤ length l → T (runsInto k R B s l) → (t : ℕ) × Nearer d s t
+  nearer-of : (d s : ℕ) (l : List ℕ) → length l ≤ suc d → suc d ≤ length l → T (runsInto k R B s l)
+      → (t : ℕ) × Onto k R (layer k R B d) s t
   nearer-of d s [] a b r = absurd (omega arith)
   nearer-of d s (t ∷ l) a b r =
       let w = and-out (pair R s t) _ (and-out (ltb s k) _ r .1) in
       (t, record { state = run-lt k R B t l (w .1); next = w .0; inside = layer-in k R B d t l (omega arith) (w .1) })
 
-  pub towards-is : (d s t : ℕ) → Nearer d s t → Nearer d s (towards d s)
-  towards-is d s t h =
-      let l = first-least k (λ t. pair R s t && mem (layer k R B d) t) t (h .state) (and-in (pair R s t) _ (h .next) (h .inside)) in
-      let b : towards d s < k = omega (arith, l, h .state) in
-      let w = and-out (pair R s (towards d s)) _ (first-found k (λ t. pair R s t && mem (layer k R B d) t) b) in
-      record { state = b; next = w .0; inside = w .1 }
-
   far-next : (d s t : ℕ) → s < k → T (pair R s t) → Far (suc d) s → Far d t
   far-next d s t l p f m r = let h = f (t ∷ m) (and-in (ltb s k) _ (lt→ltb s k l) (and-in (pair R s t) _ p r)) in omega arith
 
   -- a state of layer d + 1 that is no nearer has a next state in layer d
-  pub nearer : (d s : ℕ) → s < k → T (mem (layer k R B (suc d)) s) → Far (suc d) s → Nearer d s (towards d s)
+  pub nearer : (d s : ℕ) → s < k → T (mem (layer k R B (suc d)) s) → Far (suc d) s → Onto k R (layer k R B d) s (towards d s)
   nearer d s l t f =
       let w = layer-out k R B (suc d) s l t in
       let v = nearer-of d s (w .0) (w .1) (f (w .0) (w .2)) (w .2) in
-      towards-is d s (v .0) (v .1)
+      toward-is (v .1)
 
   pub onward-runs : (d s : ℕ) → s < k → T (mem (layer k R B d) s) → Far d s → T (runsInto k R B s (onward k R B d s))
   onward-runs zero s l t f = and-in (ltb s k) _ (lt→ltb s k l) t
@@ -71,8 +59,12 @@ module _ (k : ℕ) (R : Pairs) (B : List Bool) where
   onward-least (suc d) s [] r e = tt
   onward-least (suc d) s (t ∷ m) r e =
       let w = and-out (pair R s t) _ (and-out (ltb s k) _ r .1) in
-      let i = layer-in k R B d t m (omega arith) (w .1) in (
-        first-least k (λ t. pair R s t && mem (layer k R B d) t) t (run-lt k R B t m (w .1)) (and-in (pair R s t) _ (w .0) i),
+      let o : Onto k R (layer k R B d) s t = record {
+        state = run-lt k R B t m (w .1);
+        next = w .0;
+        inside = layer-in k R B d t m (omega arith) (w .1);
+      } in (
+        toward-least o,
         λ q. onward-least d (towards d s) m (subst (λ (x : ℕ). T (runsInto k R B x m)) (sym q) (w .1)) (suc-inj e),
       )
 
@@ -114,8 +106,8 @@ module _ (k : ℕ) (R : Pairs) (A B : List Bool) where
       least = route-least;
     }
 
--- there is only one such run
-least-same : (l m : List ℕ) → length l ≡ length m → Least l m → Least m l → l ≡ m
+-- of lists of one length only one is the least
+pub least-same : (l m : List ℕ) → length l ≡ length m → Least l m → Least m l → l ≡ m
 least-same [] [] e a b = refl
 least-same [] (t ∷ m) e a b = absurd (suc-ne-zero (length m) (sym e))
 least-same (s ∷ l) [] e a b = absurd (suc-ne-zero (length l) e)

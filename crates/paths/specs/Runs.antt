@@ -69,10 +69,14 @@ lastLayer k R A B = firstOf (suc (suc k)) (λ j. meets k A (layer k R B j) || st
 
 -- ---- the run that is written
 
+-- the least next state of s in a set, and k where it has none
+abbrev pub toward : ℕ → Pairs → List Bool → ℕ → ℕ
+toward k R X s = firstOf k (λ t. pair R s t && mem X t)
+
 -- the least next state of s in layer d, then that one's least next state in layer d − 1, down to layer 0
 abbrev pub onward : ℕ → Pairs → List Bool → ℕ → ℕ → List ℕ
 onward k R B zero s = []
-onward k R B (suc d) s = let t = firstOf k (λ t. pair R s t && mem (layer k R B d) t) in t ∷ onward k R B d t
+onward k R B (suc d) s = let t = toward k R (layer k R B d) s in t ∷ onward k R B d t
 
 -- from the least state of A in layer d
 abbrev pub route : ℕ → Pairs → List Bool → List Bool → ℕ → List ℕ
@@ -94,13 +98,16 @@ abbrev pub againNeeds : ℕ → List Fn → Pairs → List Bool → ℕ → List
 againNeeds n live R B zero = []
 againNeeds n live R B (suc d) = madeNeeds n live R B d ++ againNeeds n live R B d
 
--- of all steps of the call: up to the last layer, and again where a run is to be written
+-- of all steps of a call: those of a first pass, and again those of what is made again where a run is to be written
+abbrev pub passes : List ℕ → List ℕ → Bool → List ℕ
+passes made again some = made ++ cond some again []
+
+-- here the first pass goes up to the last layer
 abbrev pub pathNeeds : ℕ → List Fn → Pairs → List Bool → List Bool → List ℕ
 pathNeeds n live R A B =
     let k = 2 ^ n in
     let d = lastLayer k R A B in
-    let again = againNeeds n live R B d in
-    madeNeeds n live R B d ++ cond (meets k A (layer k R B d)) again []
+    passes (madeNeeds n live R B d) (againNeeds n live R B d) (meets k A (layer k R B d))
 
 -- ---- the outcome
 
@@ -111,13 +118,16 @@ pub data Outcome : Type 0 where
   short : Outcome  -- 11: the list is too short for the run
   found : List ℕ → Outcome  -- the run's states are written
 
--- 8 before 10, 10 before 11
+-- whether the steps fit, whether a run exists, the run, and the places of the list: 8 before 10, 10 before 11
+abbrev pub decided : Bool → Bool → List ℕ → ℕ → Outcome
+decided fits some l room = cond fits (cond some (cond (leb (length l) room) (found l) short) none) full
+
+-- here the run goes from A into B
 abbrev pub outcome : ℕ → ℕ → List Fn → Pairs → List Bool → List Bool → ℕ → Outcome
 outcome n N live R A B room =
     let k = 2 ^ n in
     let d = lastLayer k R A B in
-    let l = route k R A B d in
-    cond (fit N (pathNeeds n live R A B)) (cond (meets k A (layer k R B d)) (cond (leb (length l) room) (found l) short) none) full
+    decided (fit N (pathNeeds n live R A B)) (meets k A (layer k R B d)) (route k R A B d) room
 
 -- a list with the states of l at its first places: "places beyond the run are never written"
 abbrev pub written : List ℕ → List ℕ → List ℕ

@@ -1,14 +1,14 @@
 -- Laws of what specs/Find.antt defines. Assumes nothing.
 use mathlib.Core.Path.{_≡_, refl, sym, ap, ap₂, _∙_, subst}
-use mathlib.Core.Bool.{Bool, true, false, cond}
+use mathlib.Core.Bool.{Bool, true, false}
 use mathlib.Core.List.{List, _∷_}
 use Prim.Native.Nat.{ℕ, suc, _+_, _*_, _^_, _≤_, _<_}
 use native.Mathlib.Omega.{arith}
-use lib.Dec.{T, leb, le→leb, leb→le}
+use lib.Dec.{T}
 use lib.ListN.{length, set}
 use lib.Pow.{pow-mono}
 use Rattle.mucalculus.specs.Sets.{mem}
-use Rattle.mucalculus.proofs.Sets.{and-out, true-of, false-of}
+use Rattle.mucalculus.proofs.Sets.{and-out}
 use Rattle.layout.specs.View.{View}
 use Rattle.layout.specs.declared.Refusal.the-variants as refusal
 use Rattle.diagram.specs.Post.{Denotes}
@@ -18,16 +18,17 @@ use Rattle.rows.specs.Used.{rowsOf}
 use Rattle.book.specs.Bridge.{fnOf}
 use Rattle.book.specs.Run.{fit}
 use Rattle.modal.proofs.Chain.{moved-trans, base-bits}
-use Rattle.paths.specs.Runs.{Outcome, full, none, short, found, outcome, runsInto, common, meets, onward, route}
+use Rattle.paths.specs.Runs.{Outcome, full, none, short, found, outcome, runsInto, common, meets, onward, route, pathNeeds}
 use Rattle.paths.proofs.Layers.{run-lt, last-lt}
 use Rattle.paths.proofs.Written.{onward-length, route-run}
+use Rattle.paths.proofs.Decided.{decided-full, decided-none, decided-short, decided-found}
 use Rattle.paths.proofs.Exact.{first-pass}
 use Rattle.layers.specs.Scene.{Scene, layerOf, needsOf}
 use Rattle.layers.proofs.Scene.{filled-same}
 use Rattle.layers.specs.Pass.{PassPre, PassPost, Passed, Steps, lastOf}
 use Rattle.layers.specs.declared.Reached.{Reached}
 use Rattle.layers.specs.declared.Reached.the-variants as reached
-use Rattle.routes.proofs.Write.{put-written, start-later, scene-later, steps-start}
+use Rattle.routes.proofs.Write.{put-written, start-later, scene-later, steps-start, state-small}
 use Rattle.routes.specs.Write.{Onward, WritePre, WritePost}
 use Rattle.routes.specs.declared.Found.{Found}
 use Rattle.routes.specs.declared.Found.the-variants as answer
@@ -41,9 +42,8 @@ run-size {n} S d s = ap suc (onward-length (2 ^ n) (S .R) (S .B) d s)
 module _ {n N limit : ℕ} {W : View} {t b d s : ℕ} (p : RunPre n N limit W t b d s) where
   pub first-small : s < 65_536
   first-small =
-      let h = run-lt (2 ^ n) (p .scene .R) (p .scene .B) s (onward (2 ^ n) (p .scene .R) (p .scene .B) d s) (p .ready .1) in
-      let m : 2 ^ n ≤ 65_536 = pow-mono (base-bits (p .start .base)) in
-      omega arith
+      state-small (p .start .base)
+      (run-lt (2 ^ n) (p .scene .R) (p .scene .B) s (onward (2 ^ n) (p .scene .R) (p .scene .B) d s) (p .ready .1))
 
   pub run-short : {old : List ℕ} → length old ≤ d → RunPost n limit W W t b d s old old (answer.Refused refusal.Short)
   run-short {old} l S r = record { steps = steps-start (p .start); told = is-short (let e = run-size S d s in omega arith) }
@@ -76,29 +76,26 @@ module _ {n : ℕ} {W : View} {t b : ℕ} (limit : ℕ) (S : Scene n W t b) (A :
   abbrev whole : List ℕ
   whole = route (2 ^ n) (S .R) A (S .B) (lastOf S A)
 
-  abbrev choose : Bool → Bool → Bool → Outcome
-  choose f m r = cond f (cond m (cond r (found whole) short) none) full
+  abbrev fits : Bool
+  fits = fit limit (pathNeeds n (S .fs) (S .R) A (S .B))
 
-  outcome-by : {f m r : Bool} → fit limit (needsOf S (lastOf S A)) ≡ f → meets (2 ^ n) A (layerOf S (lastOf S A)) ≡ m
-      → leb (length whole) room ≡ r → out ≡ choose f m r
-  outcome-by {f} {m} {r} ef em er =
-      ap (λ (x : Bool). choose x (meets (2 ^ n) A (layerOf S (lastOf S A))) (leb (length whole) room))
-      (first-pass n limit (S .fs) (S .R) (S .B) A ∙ ef)
-      ∙ ap (λ (x : Bool). choose f x (leb (length whole) room)) em ∙ ap (choose f m) er
+  abbrev some : Bool
+  some = meets (2 ^ n) A (layerOf S (lastOf S A))
+
+  pass : fits ≡ fit limit (needsOf S (lastOf S A))
+  pass = first-pass n limit (S .fs) (S .R) (S .B) A
 
   pub outcome-full : fit limit (needsOf S (lastOf S A)) ≡ false → out ≡ full
-  outcome-full e = outcome-by e refl refl
+  outcome-full e = decided-full fits some whole room (pass ∙ e)
 
-  pub outcome-none : fit limit (needsOf S (lastOf S A)) ≡ true → meets (2 ^ n) A (layerOf S (lastOf S A)) ≡ false → out ≡ none
-  outcome-none e m = outcome-by e m refl
+  pub outcome-none : fit limit (needsOf S (lastOf S A)) ≡ true → some ≡ false → out ≡ none
+  outcome-none e m = decided-none fits some whole room (pass ∙ e) m
 
-  pub outcome-short : fit limit (needsOf S (lastOf S A)) ≡ true → meets (2 ^ n) A (layerOf S (lastOf S A)) ≡ true → room < length whole
-      → out ≡ short
-  outcome-short e m l = outcome-by e m (false-of _ (λ h. let g = leb→le (length whole) room h in omega arith))
+  pub outcome-short : fit limit (needsOf S (lastOf S A)) ≡ true → some ≡ true → room < length whole → out ≡ short
+  outcome-short e m l = decided-short fits some whole room (pass ∙ e) m l
 
-  pub outcome-found : fit limit (needsOf S (lastOf S A)) ≡ true → meets (2 ^ n) A (layerOf S (lastOf S A)) ≡ true → length whole ≤ room
-      → out ≡ found whole
-  outcome-found e m l = outcome-by e m (true-of _ (le→leb (length whole) room l))
+  pub outcome-found : fit limit (needsOf S (lastOf S A)) ≡ true → some ≡ true → length whole ≤ room → out ≡ found whole
+  outcome-found e m l = decided-found fits some whole room (pass ∙ e) m l
 
 pub told-by : {o o′ : Outcome} {r : Found} {old new : List ℕ} → o ≡ o′ → Told o′ r old new → Told o r old new
 told-by {r = r} {old = old} {new = new} e h = subst (λ (x : Outcome). Told x r old new) (sym e) h

@@ -27,18 +27,18 @@ use Rattle.book.specs.Held.{Held}
 use Rattle.book.proofs.Held.{held-keeps}
 use Rattle.modal.specs.Chain.{Base}
 use Rattle.modal.proofs.Chain.{moved-refl, moved-trans, base-next, base-bits, base-wf}
-use Rattle.paths.specs.Runs.{runsInto, firstOf, onward, written}
+use Rattle.paths.specs.Runs.{runsInto, firstOf, toward, onward, written}
 use Rattle.paths.proofs.First.{first-same}
 use Rattle.paths.proofs.Layers.{run-lt}
 use Rattle.paths.proofs.Written.{towards}
-use Rattle.seek.specs.Walk.{HoldsPre, holdsAt}
+use Rattle.seek.specs.Walk.{holdsAt}
 use Rattle.seek.specs.Search.{nextIn}
 use Rattle.layers.specs.Scene.{Scene, Start, Layered, layerOf}
 use Rattle.layers.proofs.Scene.{filled-same, fits-before}
 use Rattle.layers.specs.Again.{AgainPre, AgainPost}
 use Rattle.layers.specs.Pass.{Steps}
 use Rattle.layers.proofs.Pass.{holds-pre}
-use Rattle.routes.specs.Write.{putAll, Onward, WritePre, WritePost}
+use Rattle.routes.specs.Write.{putAll, PlacePre, PlacePost, Onward, WritePre, WritePost}
 
 -- ---- lists
 
@@ -98,6 +98,45 @@ next-mem n X {t} {x} R L e dt dx s l u i = ap₂ _&&_ step inside
     inside : holdsAt X x u 0 ≡ mem L u
     inside = subst (λ (m : ℕ). den m (rowsOf X) x (pairVal u 0) ≡ mem L u) e (dx .same (pairVal u 0) ∙ ap (mem L) (nowOf-pairVal n u 0 i))
 
+-- what the walk over rows finds is the least next state in the set
+pub toward-found : (n : ℕ) (X : View) {t x : ℕ} (R : Pairs) (L : List Bool) → 2 * n ≡ 2 * X .header BITS
+    → Denotes (2 * n) (rowsOf X) t (fnOfPairs n R) → Denotes (2 * n) (rowsOf X) x (fnOf n L)
+    → (s : ℕ) → s < 2 ^ n → firstOf (2 ^ n) (nextIn X t s x) ≡ toward (2 ^ n) R L s
+toward-found n X {t} {x} R L e dt dx s l =
+    first-same (2 ^ n) (nextIn X t s x) (λ u. pair R s u && mem L u) (next-mem n X R L e dt dx s l)
+
+-- a state fits into a place of the list
+pub state-small : {n N limit : ℕ} {W : View} {s : ℕ} → Base n N limit W → s < 2 ^ n → s < 65_536
+state-small {n} b l = let m : 2 ^ n ≤ 65_536 = pow-mono (base-bits b) in omega arith
+
+-- ---- one state of a run, whatever made its set: L is the set of arrow x in words that steps have left
+
+module _ {n N limit : ℕ} {W Y : View} {t b x : ℕ} (p : Start n N limit W t b) (q : Steps n W Y) (S : Scene n W t b) (L : List Bool)
+    (d : Denotes (2 * n) (rowsOf Y) x (fnOf n L)) where
+  base-there : Base n N limit Y
+  base-there = base-next (p .base) (q .moved)
+
+  relation-there : Denotes (2 * n) (rowsOf Y) t (fnOfPairs n (S .R))
+  relation-there = keeps-denotes (q .kept) (p .t-live) (S .relation)
+
+  -- what is found is the least next state in the set
+  pub step-found : (s : ℕ) → s < 2 ^ n → firstOf (2 ^ n) (nextIn Y t s x) ≡ toward (2 ^ n) (S .R) L s
+  step-found s l = toward-found n Y (S .R) L (base-there .ready .levels-is) relation-there d s l
+
+  -- so it may be asked for where there is one
+  pub step-asks : {s at : ℕ} {list : List ℕ} → s < 2 ^ n → toward (2 ^ n) (S .R) L s < 2 ^ n → at < length list
+      → PlacePre n Y t s x at list
+  step-asks {s} l g r = record {
+    walks = (holds-pre base-there (relation-there .arrow), holds-pre base-there (d .arrow), base-bits (p .base));
+    there = subst (λ (u : ℕ). u < 2 ^ n) (sym (step-found s l)) g;
+    room = r;
+  }
+
+-- it fits into its place
+pub next-small : {n : ℕ} {W : View} {t s x at u : ℕ} {list : List ℕ} → PlacePre n W t s x at list → u ≡ firstOf (2 ^ n) (nextIn W t s x)
+    → u < 65_536
+next-small {n} a e = let m : 2 ^ n ≤ 65_536 = pow-mono (a .walks .2) in let l = a .there in omega (arith, m, l, e)
+
 -- ---- writing
 
 -- where the loop stands: s is the last state written, and the rest goes from place i on
@@ -126,55 +165,55 @@ module _ {n N limit : ℕ} {W : View} {t b d first : ℕ} {old : List ℕ} (p : 
       made : (S : Scene n W t b) (r : Onward limit S d first) → Layered n X Y t b (scene-later (p .start) (q S r .steps) S) (left - 1) x
       made S r = g (scene-later (p .start) (q S r .steps) S)
 
-      own : Layered n X Y t b (scene-later (p .start) (at-scene .steps) (p .scene)) (left - 1) x
-      own = made (p .scene) (p .ready)
-
-      base-after : Base n N limit Y
-      base-after = base-next (start-later (p .start) (at-scene .steps) .base) (own .moved)
-
       steps-after : (S : Scene n W t b) (r : Onward limit S d first) → Steps n W Y
       steps-after S r = steps-later (p .start) (q S r .steps) (made S r)
 
-      pub next-walks : HoldsPre Y t × HoldsPre Y x × (n ≤ 16)
-      next-walks = (
-        holds-pre base-after (keeps-denotes (steps-after (p .scene) (p .ready) .kept) (p .start .t-live) (p .scene .relation) .arrow),
-        holds-pre base-after (own .layer-is .arrow),
-        base-bits (p .start .base),
-      )
+      module _ (l : 0 < left) where
+        eleft : left ≡ suc (left - 1)
+        eleft = omega arith
 
-      module _ {u : ℕ} (eu : u ≡ firstOf (2 ^ n) (nextIn Y t s x)) (l : 0 < left) where
-        next-is : (S : Scene n W t b) (r : Onward limit S d first) → u ≡ towards (2 ^ n) (S .R) (S .B) (left - 1) s
-        next-is S r =
-            let small = run-lt (2 ^ n) (S .R) (S .B) s (onward (2 ^ n) (S .R) (S .B) left s) (q S r .runs) in
-            eu ∙ first-same (2 ^ n) (nextIn Y t s x) (λ u. pair (S .R) s u && mem (layerOf S (left - 1)) u)
-            (next-mem n Y (S .R) (layerOf S (left - 1)) (base-after .ready .levels-is)
-            (keeps-denotes (steps-after S r .kept) (p .start .t-live) (S .relation)) (made S r .layer-is) s small)
+        -- the state that is written, and those after it
+        abbrev next : Scene n W t b → ℕ
+        next S = towards (2 ^ n) (S .R) (S .B) (left - 1) s
 
-        pub write-turns : (S : Scene n W t b) → Onward limit S d first
-            → Writing n limit W Y t b S d first old (set now i u) u (left - 1) (i + 1)
-        write-turns S r =
+        abbrev rest : Scene n W t b → ℕ → List ℕ
+        rest S v = onward (2 ^ n) (S .R) (S .B) (left - 1) v
+
+        here : (S : Scene n W t b) → Onward limit S d first → s < 2 ^ n
+        here S r = run-lt (2 ^ n) (S .R) (S .B) s (onward (2 ^ n) (S .R) (S .B) left s) (q S r .runs)
+
+        -- a run goes on from it
+        ahead : (S : Scene n W t b) → Onward limit S d first → T (runsInto (2 ^ n) (S .R) (S .B) (next S) (rest S (next S)))
+        ahead S r =
             let k = 2 ^ n in
-            let z : left ≡ suc (left - 1) = omega arith in
+            let w = subst (λ (m : ℕ). T (runsInto k (S .R) (S .B) s (onward k (S .R) (S .B) m s))) eleft (q S r .runs) in
+            and-out (pair (S .R) s (next S)) _ (and-out (ltb s k) _ w .1) .1
+
+        pub next-asks : i < length now → PlacePre n Y t s x i now
+        next-asks h =
+            let S = p .scene in
+            let r = p .ready in
+            step-asks (p .start) (steps-after S r) S (layerOf S (left - 1)) (made S r .layer-is) (here S r)
+            (run-lt (2 ^ n) (S .R) (S .B) (next S) (rest S (next S)) (ahead S r)) h
+
+        pub write-turns : {u : ℕ} {new : List ℕ} → PlacePost n Y t s x i now new u → (S : Scene n W t b) → Onward limit S d first
+            → Writing n limit W Y t b S d first old new u (left - 1) (i + 1)
+        write-turns {u} {new} w S r =
+            let k = 2 ^ n in
             let j : suc i ≡ i + 1 = omega arith in
-            let e = next-is S r in
-            let o : ℕ → List ℕ = λ v. onward k (S .R) (S .B) (left - 1) v in
-            let w = subst (λ (m : ℕ). T (runsInto k (S .R) (S .B) s (onward k (S .R) (S .B) m s))) z (q S r .runs) in
-            let f = subst (λ (m : ℕ). putAll i (onward k (S .R) (S .B) m s) now ≡ putAll 1 (onward k (S .R) (S .B) d first) old) z
-            (q S r .rest) in
-            let f1 = subst (λ (v : ℕ). putAll (suc i) (o v) (set now i v) ≡ putAll 1 (onward k (S .R) (S .B) d first) old) (sym e) f in
+            let e : u ≡ next S =
+            w .is ∙ step-found (p .start) (steps-after S r) S (layerOf S (left - 1)) (made S r .layer-is) s (here S r) in
+            let P : ℕ → List ℕ → List ℕ
+            → Type 0 = λ m l now. putAll m l now ≡ putAll 1 (onward k (S .R) (S .B) d first) old in
+            let f : P (suc i) (rest S (next S)) (set now i (next S)) =
+            subst (λ (m : ℕ). P i (onward k (S .R) (S .B) m s) now) eleft (q S r .rest) in
+            let f1 = subst (λ (v : ℕ). P (suc i) (rest S v) (set now i v)) (sym e) f in
+            let f2 = subst (λ (m : ℕ). P m (rest S u) (set now i u)) j f1 in
             record {
               steps = steps-after S r;
-              rest = subst (λ (m : ℕ). putAll m (o u) (set now i u) ≡ putAll 1 (onward k (S .R) (S .B) d first) old) j f1;
-              runs = subst (λ (v : ℕ). T (runsInto k (S .R) (S .B) v (o v))) (sym e)
-                  (and-out (pair (S .R) s (towards k (S .R) (S .B) (left - 1) s)) _ (and-out (ltb s k) _ w .1) .1);
+              rest = subst (λ (m : List ℕ). P (i + 1) (rest S u) m) (sym (w .list)) f2;
+              runs = subst (λ (v : ℕ). T (runsInto k (S .R) (S .B) v (rest S v))) (sym e) (ahead S r);
             }
-
-        pub next-small : u < 65_536
-        next-small =
-            let h = run-lt (2 ^ n) (p .scene .R) (p .scene .B) u (onward (2 ^ n) (p .scene .R) (p .scene .B) (left - 1) u)
-            (write-turns (p .scene) (p .ready) .runs) in
-            let m : 2 ^ n ≤ 65_536 = pow-mono (base-bits (p .start .base)) in
-            omega arith
 
     pub write-ends : left ≤ 0 → WritePost n limit W X t b d first old now
     write-ends l S r =

@@ -4,8 +4,18 @@ use Prim.Native.Nat.{ℕ}
 use Rattle.modal.specs.declared.Limits.{Limits}
 use Rattle.modal.specs.Posts.{viewIn, Counted}
 use Rattle.routes.specs.declared.Found.{Found}
-use Rattle.routes.specs.Write.{WritePre, WritePost}
+use Rattle.routes.specs.Write.{PlacePre, PlacePost, WritePre, WritePost}
 use Rattle.routes.specs.Find.{RunPre, RunPost, FindPost}
+
+-- one state: what writing it asks, and gives
+module _ (l : Limits) (words old : List ℕ) where
+  -- a next state of s in the set x exists, and the list has the place
+  abbrev pub PlaceAsks : (relation s x at : ℕ) → Type 0
+  PlaceAsks relation s x at = PlacePre (l .bits) (viewIn l words) relation s x at old
+
+  -- the least of them is answered and written
+  abbrev pub PlaceGives : (new : List ℕ) (relation s x at next : ℕ) → Type 0
+  PlaceGives new relation s x at next = PlacePost (l .bits) (viewIn l words) relation s x at old new next
 
 -- before a call: what writing the d states after the first one into a list asks, and writing a run of d steps
 module _ (l : Limits) (words counts : List ℕ) (relation b d first : ℕ) where

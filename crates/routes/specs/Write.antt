@@ -3,12 +3,14 @@
 use mathlib.Core.Path.{_≡_}
 use mathlib.Core.Bool.{true}
 use mathlib.Core.List.{List, [], _∷_}
-use Prim.Native.Nat.{ℕ, suc, _^_, _<_}
+use Prim.Native.Nat.{ℕ, suc, _^_, _≤_, _<_}
 use lib.Dec.{T}
 use lib.ListN.{length, set}
 use Rattle.layout.specs.View.{View}
 use Rattle.book.specs.Run.{fit}
-use Rattle.paths.specs.Runs.{runsInto, onward}
+use Rattle.paths.specs.Runs.{runsInto, firstOf, onward}
+use Rattle.seek.specs.Walk.{HoldsPre}
+use Rattle.seek.specs.Search.{nextIn}
 use Rattle.layers.specs.Scene.{Scene, Start, needsOf}
 use Rattle.layers.specs.Pass.{Steps}
 
@@ -18,6 +20,19 @@ use Rattle.layers.specs.Pass.{Steps}
 abbrev pub putAll : ℕ → List ℕ → List ℕ → List ℕ
 putAll i [] m = m
 putAll i (s ∷ l) m = putAll (suc i) l (set m i s)
+
+-- ---- one state
+
+-- what it asks: arrows that can be walked, a next state of s in the set of arrow x, and the place in the list
+pub record PlacePre (n : ℕ) (W : View) (t s x at : ℕ) (list : List ℕ) : Type 0 where
+  pub walks : HoldsPre W t × HoldsPre W x × (n ≤ 16)
+  pub there : firstOf (2 ^ n) (nextIn W t s x) < 2 ^ n
+  pub room : at < length list
+
+-- the least of them is answered, and written there
+pub record PlacePost (n : ℕ) (W : View) (t s x at : ℕ) (old new : List ℕ) (u : ℕ) : Type 0 where
+  pub is : u ≡ firstOf (2 ^ n) (nextIn W t s x)
+  pub list : new ≡ set old at u
 
 -- ---- writing
 

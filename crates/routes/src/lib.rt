@@ -5,13 +5,31 @@ use layers::reach;
 use layout::Refusal;
 use modal::Limits;
 use seek::least_next;
-ghost use Rattle.routes.specs.Posts.{WriteAsks, WriteGives, RunAsks, RunGives, FindGives};
+ghost use Rattle.routes.specs.Posts.{PlaceAsks, PlaceGives, WriteAsks, WriteGives, RunAsks, RunGives, FindGives};
 ghost use Rattle.layers.specs.Posts.{PassAsks};
 
 // What the call for a run answers: how many states it has.
 pub enum Found {
     States(u32),
     Refused(Refusal),
+}
+
+// Writes the least next state of s in the set x, of which there is one, at a place of the list, and answers it.
+pub fn write_next(
+    words: &[u32],
+    list: &mut [u16],
+    limits: Limits,
+    relation: u32,
+    s: u32,
+    x: u32,
+    at: usize,
+) -> u32
+    requires { ⌜ PlaceAsks limits (now words) (now list) relation s x at ⌝ }
+    ensures { λ r. ⌜ PlaceGives limits (now (words .entry)) (now (list .entry)) (now (list .exit)) relation s x at r ⌝ }
+{
+    let next = least_next(words, limits.rows, limits.bits, relation, s, x);
+    list[at] = next as u16;
+    next
 }
 
 // Writes the d states after the first one from place 1 on: at each the least next state that lies a layer nearer.
@@ -35,8 +53,7 @@ fn write_on(
     while 0 < left {
         left -= 1;
         let x = make_layer(words, counts, limits, relation, b, left);
-        s = least_next(words, limits.rows, limits.bits, relation, s, x);
-        list[at] = s as u16;
+        s = write_next(words, list, limits, relation, s, x, at);
         at += 1;
     }
 }

@@ -40,6 +40,7 @@ no-row n e = absurd (n e)
 
 lent-mem : (s : Step) (kept c : ℕ) → c ≢ 0 → Mem c (lent s kept) → Mem c (operandsOf s) ⊎ (c ≡ kept)
 lent-mem (step.Bit l) kept c n = padded [] (no-row n) (no-row n)
+lent-mem (step.Cube o z) kept c n = padded [] (no-row n) (no-row n)
 lent-mem (step.Not a) kept c n = padded (a ∷ []) here (no-row n)
 lent-mem (step.And a b) kept c n = padded (a ∷ b ∷ []) here (λ e. there (here e))
 lent-mem (step.Or a b) kept c n = padded (a ∷ b ∷ []) here (λ e. there (here e))
@@ -55,6 +56,7 @@ two-lent h = ⊎-elim (λ e. here e) (λ t. ⊎-elim (λ e. there (here e)) (λ 
 
 mem-lent : (s : Step) (kept a : ℕ) → Mem a (operandsOf s) → Mem a (lent s kept)
 mem-lent (step.Bit l) kept a h = absurd (mem-nil h)
+mem-lent (step.Cube o z) kept a h = absurd (mem-nil h)
 mem-lent (step.Not b) kept a h = one-lent h
 mem-lent (step.And b c) kept a h = two-lent h
 mem-lent (step.Or b c) kept a h = two-lent h

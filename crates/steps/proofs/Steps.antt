@@ -28,6 +28,7 @@ use Rattle.table.specs.Code.{madeOf}
 use Rattle.collect.specs.Lent.{live}
 use Rattle.operations.specs.Work.{OpFrame, Ready, Worked}
 use Rattle.operations.proofs.Work.{worked-there}
+use Rattle.cubes.proofs.CubeLaws.{cubeF-reads}
 use Rattle.steps.specs.declared.Step.{Step}
 use Rattle.steps.specs.declared.Step.the-variants as step
 use Rattle.steps.specs.Steps.{stepF, operandsOf, Fits, liveAt}
@@ -49,6 +50,7 @@ operand-arrow m rows s f a h = go s f h
 
     go : (s : Step) → Fits m rows s → Mem a (operandsOf s) → Arrow rows a
     go (step.Bit l) f h = absurd (mem-nil h)
+    go (step.Cube o z) f h = absurd (mem-nil h)
     go (step.Not b) f h = one f h
     go (step.And b c) f h = two (f .0) (f .1) h
     go (step.Or b c) f h = two (f .0) (f .1) h
@@ -59,6 +61,7 @@ operand-arrow m rows s f a h = go s f h
 module _ {before after : Rows} (m : ℕ) where
   pub fits-keeps : (s : Step) → Keeps before after (operandsOf s) → Fits m before s → Fits m after s
   fits-keeps (step.Bit l) k f = f
+  fits-keeps (step.Cube o z) k f = f
   fits-keeps (step.Not a) k f = keeps-arrow k a (here refl)
   fits-keeps (step.And a b) k f = (keeps-arrow k a (here refl), keeps-arrow k b (there (here refl)))
   fits-keeps (step.Or a b) k f = (keeps-arrow k a (here refl), keeps-arrow k b (there (here refl)))
@@ -68,6 +71,7 @@ module _ {before after : Rows} (m : ℕ) where
 
   pub stepF-keeps : (s : Step) → Keeps before after (operandsOf s) → (v : Val) → stepF m after s v ≡ stepF m before s v
   stepF-keeps (step.Bit l) k v = refl
+  stepF-keeps (step.Cube o z) k v = refl
   stepF-keeps (step.Not a) k v = ap not (keeps-den k m a (here refl) v)
   stepF-keeps (step.And a b) k v = ap₂ _&&_ (keeps-den k m a (here refl) v) (keeps-den k m b (there (here refl)) v)
   stepF-keeps (step.Or a b) k v = ap₂ _||_ (keeps-den k m a (here refl) v) (keeps-den k m b (there (here refl)) v)
@@ -77,6 +81,7 @@ module _ {before after : Rows} (m : ℕ) where
 -- a step reads levels below m only
 pub stepF-reads : {m N : ℕ} {rows : Rows} (s : Step) → WellFormed m N rows → even m ≡ true → Fits m rows s → Reads 0 m (stepF m rows s)
 stepF-reads (step.Bit l) wf e f = λ v w h. h l (omega arith) f
+stepF-reads {m} (step.Cube o z) wf e f = cubeF-reads m o z
 stepF-reads (step.Not a) wf e f = not-reads (den-reads-all wf a f)
 stepF-reads (step.And a b) wf e f = two-reads _&&_ (den-reads-all wf a (f .0)) (den-reads-all wf b (f .1))
 stepF-reads (step.Or a b) wf e f = two-reads _||_ (den-reads-all wf a (f .0)) (den-reads-all wf b (f .1))

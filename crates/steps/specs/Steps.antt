@@ -14,12 +14,15 @@ use Rattle.table.specs.declared.Made.{Made}
 use Rattle.collect.specs.Lent.{live}
 use Rattle.memory.specs.Memo.{Remembers}
 use Rattle.operations.specs.Work.{OpFrame, Ready}
+use Rattle.cubes.specs.Cube.{cubeF}
 use Rattle.steps.specs.declared.Step.{Step}
 use Rattle.steps.specs.declared.Step.the-variants as step
 
--- "Steps are: a bit; NOT; AND; OR; SHIFT (every current bit becomes its next bit); EXISTS at one level."
+-- "Steps are: a bit; NOT; AND; OR; SHIFT (every current bit becomes its next bit); EXISTS at one level." And since request 11: "The fitting
+-- states of a pair are one step", a cube.
 abbrev pub stepF : ℕ → Rows → Step → Fn
 stepF m rows (step.Bit l) = bitF l
+stepF m rows (step.Cube o z) = cubeF m o z
 stepF m rows (step.Not a) = notF (den m rows a)
 stepF m rows (step.And a b) = andF (den m rows a) (den m rows b)
 stepF m rows (step.Or a b) = orF (den m rows a) (den m rows b)
@@ -29,6 +32,7 @@ stepF m rows (step.Exists x a) = existsF x (den m rows a)
 -- "the step's operands"
 abbrev pub operandsOf : Step → List ℕ
 operandsOf (step.Bit l) = []
+operandsOf (step.Cube o z) = []
 operandsOf (step.Not a) = a ∷ []
 operandsOf (step.And a b) = a ∷ b ∷ []
 operandsOf (step.Or a b) = a ∷ b ∷ []
@@ -38,6 +42,7 @@ operandsOf (step.Exists x a) = a ∷ []
 -- the same as two arrows: 0 where there is none
 abbrev pub firstOperand : Step → ℕ
 firstOperand (step.Bit l) = 0
+firstOperand (step.Cube o z) = 0
 firstOperand (step.Not a) = a
 firstOperand (step.And a b) = a
 firstOperand (step.Or a b) = a
@@ -46,6 +51,7 @@ firstOperand (step.Exists x a) = a
 
 abbrev pub secondOperand : Step → ℕ
 secondOperand (step.Bit l) = 0
+secondOperand (step.Cube o z) = 0
 secondOperand (step.Not a) = 0
 secondOperand (step.And a b) = b
 secondOperand (step.Or a b) = b
@@ -55,6 +61,7 @@ secondOperand (step.Exists x a) = 0
 -- the operands are arrows, levels are in range, and SHIFT's operand reads even levels only
 abbrev pub Fits : ℕ → Rows → Step → Type 0
 Fits m rows (step.Bit l) = l < m
+Fits m rows (step.Cube o z) = Unit {0}
 Fits m rows (step.Not a) = Arrow rows a
 Fits m rows (step.And a b) = Arrow rows a × Arrow rows b
 Fits m rows (step.Or a b) = Arrow rows a × Arrow rows b

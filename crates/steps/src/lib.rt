@@ -1,5 +1,6 @@
 // The steps of an evaluation: a step is tried; where the rows run out, the table is collected and the step tried once more.
 use collect::free_rows;
+use cubes::cube;
 use layout::Table;
 use layout::flip;
 use layout::header_word;
@@ -19,9 +20,10 @@ ghost use Rattle.steps.specs.Clean.{CleanPre, Cleaned};
 ghost use Rattle.steps.specs.Settle.{SettlePre, SettlePost};
 ghost use Rattle.steps.specs.Posts.{TryPre, TryPost, RetriedIn};
 
-// A step and its operands: bits and EXISTS have a level first.
+// A step and its operands: bits and EXISTS have a level first; a cube has the bits that are 1 and those that are 0.
 pub enum Step {
     Bit(u32),
+    Cube(u32, u32),
     Not(u32),
     And(u32, u32),
     Or(u32, u32),
@@ -41,6 +43,10 @@ pub fn operands_of(step: Step) -> Operands
 {
     match step {
         Step::Bit(_) => Operands {
+            first: Table::NOTHING,
+            second: Table::NOTHING,
+        },
+        Step::Cube(_, _) => Operands {
             first: Table::NOTHING,
             second: Table::NOTHING,
         },
@@ -74,6 +80,7 @@ fn run_step(words: &mut [u32], rows: u32, levels: u32, limit: u32, step: Step) -
 {
     match step {
         Step::Bit(l) => bit(words, rows, levels, limit, l),
+        Step::Cube(o, z) => cube(words, rows, levels, limit, o, z),
         Step::Not(a) => flip(a),
         Step::And(a, b) => and_of(words, rows, levels, limit, a, b),
         Step::Or(a, b) => or_of(words, rows, levels, limit, a, b),

@@ -14,4 +14,5 @@ pub mod QuietCalls
 pub mod Quiet
 pub mod Fares
 pub mod Games
+pub mod Logs
 pub mod Later

@@ -44,6 +44,9 @@ use Rattle.coin_calls.proofs.Rests.{fare-rests}
 use Rattle.game_calls.specs.Post.{ReactPost}
 use Rattle.game_calls.proofs.Checks.{react-stays}
 use Rattle.game_calls.proofs.Rests.{react-rests}
+use Rattle.log_calls.specs.Post.{LogsFit, LogPost}
+use Rattle.log_calls.proofs.Checks.{log-stays}
+use Rattle.log_calls.proofs.Rests.{log-rests}
 use Rattle.witness.proofs.Words.{storedIn, put-header, put-cell}
 use Rattle.witness.proofs.Made.{Roomy, every, self, every-done, self-done, empty-done}
 use Rattle.witness.proofs.Row.{bitIn, bitStored, view-bit, bit-done}
@@ -55,7 +58,8 @@ use Rattle.witness.proofs.Larger.{under, bit, node, row, made, fixed, R
 use Rattle.witness.proofs.Pressed.{press, priced, Fares, fare-by, short-by, none-by}
 use Rattle.witness.proofs.QuietList.{notBit, broken, turned, opening, withBit, started, refusals, closing, answers, events}
 use Rattle.witness.proofs.QuietList.{related, filled, vacant, rowed, midway, afterRun, later, end, blank, twoStates, asked, order}
-use Rattle.witness.proofs.QuietList.{order′, bytes, bytes′, spare, spare′, single, labels, labels′, Relates, Turns, Tells, Setting}
+use Rattle.witness.proofs.QuietList.{order′, bytes, bytes′, spare, spare′, single, labels, labels′, oneLog, twoLog, contrary}
+use Rattle.witness.proofs.QuietList.{places, threeStates, Relates, Turns, Tells, Setting}
 
 -- ---- the question for many states
 
@@ -99,6 +103,10 @@ in-range n e = rw e (record { register = omega arith; below = below })
 -- and the lists are long enough
 fit : Fit asked order bytes
 fit = record { few = omega arith; order-room = omega arith; answer-room = omega arith }
+
+-- the logs have three entries each
+logs-fit : LogsFit 6 6
+logs-fit = record { equal = refl; whole = refl; some = omega arith; few = omega arith }
 
 -- ---- the calls
 
@@ -319,6 +327,14 @@ module _ {N k a c R : ℕ} (x : Setting N k a c R) where
   pub no-answer : ReactPost (under a c) R 1 0 0 0 1 (afterRun N k) (afterRun N k) (plain 15)
   no-answer = react-stays (under a c) R 1 0 0 0 1 (afterRun N k) after-sound (told .no-answer)
 
+  -- ANSWERED, and no word changes: a run that fits two logs
+  pub logs-told : LogPost 0 oneLog twoLog (afterRun N k) (afterRun N k) places (threeStates .list) (threeStates .reply)
+  logs-told = log-stays 0 oneLog twoLog (afterRun N k) places logs-fit after-sound (told .fitting)
+
+  -- REFUSED: two logs that differ
+  pub logs-differ : LogPost 0 oneLog contrary (afterRun N k) (afterRun N k) [] [] (plain 10)
+  logs-differ = log-stays 0 oneLog contrary (afterRun N k) [] logs-fit after-sound (told .differing)
+
   -- bytes that are no formula
   pub not-read : CallPost (set (under a c) 5 R broken) (afterRun N k) (afterRun N k) (plain 4)
   not-read = call-refused (afterRun N k) after-sound 3 (set (under a c) 5 R broken) (told .unread)
@@ -347,7 +363,7 @@ module _ {N k a c R : ℕ} (x : Setting N k a c R) where
 
   -- ---- the lists
 
-  -- the questions, the refused searches, the cheapest run and the refused games before other calls
+  -- the questions, the refused searches, the cheapest run, the refused games and the logs before other calls
   quiet : {l : List Event} {ws : List ℕ} → Trace (List ℕ) performs rests (afterRun N k) l ws
       → Trace (List ℕ) performs rests (afterRun N k) l ws
   quiet t =
@@ -356,7 +372,9 @@ module _ {N k a c R : ℕ} (x : Setting N k a c R) where
       (pause (path-rests no-run)
       (pause (path-rests no-register)
       (pause (fare-rests (fare-paid 11))
-      (pause (fare-rests (fare-none 11)) (pause (react-rests no-goal) (pause (react-rests no-answer) t)))))))
+      (pause (fare-rests (fare-none 11))
+      (pause (react-rests no-goal)
+      (pause (react-rests no-answer) (pause (log-rests logs-told) (pause (log-rests logs-differ) t)))))))))
 
   -- from the search for a run on, with the refused calls as events
   from-refusals : Trace (List ℕ) performs rests (midway N k) (refusals a c R ++ closing a c R) (end N k)

@@ -26,6 +26,7 @@ use Rattle.book.proofs.Compute.{computing}
 use Rattle.book.proofs.Listed.{frame}
 use Rattle.paths.specs.Call.{Ended, refuse as refuseRun, shortest}
 use Rattle.games.specs.Call.{reacts}
+use Rattle.logs.specs.Call.{logged}
 use Rattle.witness.proofs.Words.{storedIn}
 use Rattle.witness.proofs.Made.{every, self}
 use Rattle.witness.proofs.Row.{bitIn}
@@ -163,6 +164,26 @@ labels = 9 ∷ 9 ∷ []
 abbrev pub labels′ : List ℕ
 labels′ = 0 ∷ 9 ∷ []
 
+-- two logs of three moments, a mask and a value for each: one unit saw bit 0 on at the first moment
+abbrev pub oneLog : List ℕ
+oneLog = 1 ∷ 1 ∷ 0 ∷ 0 ∷ 0 ∷ 0 ∷ []
+
+-- the other at the last
+abbrev pub twoLog : List ℕ
+twoLog = 0 ∷ 0 ∷ 0 ∷ 0 ∷ 1 ∷ 1 ∷ []
+
+-- and one that it was off at the first
+abbrev pub contrary : List ℕ
+contrary = 1 ∷ 0 ∷ 0 ∷ 0 ∷ 0 ∷ 0 ∷ []
+
+-- the list for a run that fits two of them
+abbrev pub places : List ℕ
+places = 7 ∷ 7 ∷ 7 ∷ 7 ∷ []
+
+-- states 1, 0 and 1 are written, 0 being the least that is possible there, and the last place is not
+abbrev pub threeStates : Ended
+threeStates = record { reply = plain 0; list = 1 ∷ 0 ∷ 1 ∷ 7 ∷ [] }
+
 -- ---- what is computed of the book
 
 -- the relation of all pairs: its three steps within V fit, and need no row
@@ -181,7 +202,8 @@ pub record Turns (acc : Terms) (R : ℕ) (b : Book) : Type 0 where
       ≡ value (true ∷ false ∷ []) (record { rounds = 0; peak = 1 })
 
 -- the calls that store nothing: a run of two states, none from register 1, which has no state, and 7 from register 5, which is empty; a
--- set that is refused; and answers to the press 1 in state 0, of games whose goals are those registers
+-- set that is refused; answers to the press 1 in state 0, of games whose goals are those registers; a run of three states that fits two
+-- logs, and 10 where they differ, with no place in the list
 pub record Tells (N : ℕ) (acc : Terms) (R : ℕ) (b : Book) : Type 0 where
   pub bits : b .n ≡ 1
   pub rows : b .N ≡ N
@@ -192,6 +214,8 @@ pub record Tells (N : ℕ) (acc : Terms) (R : ℕ) (b : Book) : Type 0 where
   pub unread : does b (set acc 5 R broken) ≡ refuse b 4
   pub no-goal : reacts b 5 0 0 acc R 0 1 ≡ plain 7
   pub no-answer : reacts b 1 0 0 acc R 0 1 ≡ plain 15
+  pub fitting : logged b 0 oneLog twoLog places ≡ threeStates
+  pub differing : logged b 0 oneLog contrary [] ≡ refuseRun 10 []
 
 -- the table's sizes, limits that are no limits here, and all that is computed
 pub record Setting (N k a c R : ℕ) : Type 0 where
@@ -226,6 +250,8 @@ small = record {
     unread = refl;
     no-goal = refl;
     no-answer = refl;
+    fitting = refl;
+    differing = refl;
   };
   fares = record { bits = refl; from = refl; into = refl; without = refl; leads = tt; empty = refl };
 }
@@ -251,6 +277,8 @@ large = record {
     unread = refl;
     no-goal = refl;
     no-answer = refl;
+    fitting = refl;
+    differing = refl;
   };
   fares = record { bits = refl; from = refl; into = refl; without = refl; leads = tt; empty = refl };
 }

@@ -8,6 +8,7 @@ use reference::accounts::Account;
 use reference::book::{Answer, Book, Call, REGISTERS};
 use reference::formula::{self, Kind};
 use reference::game::Named;
+use reference::logs::{digits, Entry};
 use reference::states::state_count;
 
 /// A difference between the library and the book, in words.
@@ -76,6 +77,12 @@ pub fn make(
             answer.map(stored).map_err(Refusal::from)
         }
         Call::Force { .. } | Call::React { .. } => make_game(table, accounts, call),
+        Call::Logged {
+            t,
+            one,
+            two,
+            places,
+        } => make_logged(table, *t as u32, [one, two], *places),
         Call::Clear { r } => table.clear(*r as u32).map(none),
         Call::Valid { formula } => table.valid(formula).map(none).map_err(Refusal::from),
         Call::Collect => table.collect().map(plain),
@@ -127,6 +134,29 @@ fn make_game(
         }
         _ => unreachable!("no call of a game"),
     }
+}
+
+/// Makes the call for two logs on the library. "a refusal keeps the list, and places past the run are
+/// never written".
+fn make_logged(
+    table: &mut Table<Vec<u32>>,
+    t: u32,
+    logs: [&[Entry]; 2],
+    places: usize,
+) -> Result<Answer, Refusal> {
+    let lent = |&Entry { mask, value }: &Entry| kudzuclamp::Entry { mask, value };
+    let [one, two] = logs.map(|log| log.iter().map(lent).collect::<Vec<_>>());
+    let guards = vec![0xA5A5; places];
+    let mut list = guards.clone();
+    let result = table.write_logged(&mut list, t, &one, &two);
+    let written = result.map_or(0, |()| one.len());
+    assert_eq!(
+        list[written..],
+        guards[written..],
+        "past the run, or refused"
+    );
+    result?;
+    Ok(Answer::plain(digits(table.bits()?, &list[..written])))
 }
 
 fn loaded(loaded: Loaded) -> Answer {
@@ -192,7 +222,7 @@ pub fn note_node(expected: &mut Expected, call: &Call, got: Answer) {
     }
 }
 
-/// Questions and refusals but 8, 9 and 15 keep all words; the rest keeps what is needed. A sound table
+/// Questions and refusals but 8 to 11 and 15 keep all words; the rest keeps what is needed. A sound table
 /// stays sound, and an answered collect leaves no unneeded row used.
 pub fn compare_words(
     before: &[u32],
@@ -203,12 +233,12 @@ pub fn compare_words(
     let answered = number == 0;
     let register = |r: u64| FIRST_REGISTER + r as usize;
     let target = match call {
-        _ if !matches!(number, 0 | 8 | 9 | 15) => return kept::all(before, after),
+        _ if !matches!(number, 0 | 8..=11 | 15) => return kept::all(before, after),
         Call::Set { r, .. } | Call::Force { r, .. } => answered.then(|| register(*r)),
         Call::Relation { t, .. } => answered.then(|| FIRST_RELATION + *t as usize),
         Call::Clear { r } => Some(register(*r)),
         Call::Valid { .. } => answered.then_some(VALID),
-        Call::Collect | Call::React { .. } => None,
+        Call::Collect | Call::React { .. } | Call::Logged { .. } => None,
         _ => return kept::all(before, after),
     };
     kept::needed(before, after, target)?;

@@ -5,17 +5,21 @@ use crate::compare::Difference;
 use crate::games::{draw_game, playable};
 use crate::limits::{draw_accounts, draw_sizes, Sizes};
 use crate::list::{List, Step};
+use crate::logs::{draw_logged, loggable};
 use crate::run::{Runner, MAX_BITS};
 use crate::words::{table_size, BITS, HEADER, ROW, UNUSED, VALID};
 use reference::accounts::Account;
 use reference::book::{words_for, Book, Call};
 use reference::random::Random;
 
-/// Calls of a list: fresh, relation, set, force, react, clear, collect, node, member and count.
+/// Calls of a list: fresh, relation, set, force, react, logged, clear, collect, node, member and count.
 pub const CALLS: u64 = 40;
 
 /// How many calls of a hundred are a game's, once something is filled.
 const GAMES: u64 = 15;
+
+/// And how many of the others are for two logs, once a relation is filled.
+const LOGS: u64 = 10;
 
 /// How many answered calls took exactly what a limit allows, and how many refused ones one more.
 #[derive(Clone, Copy, Debug, Default, PartialEq, Eq)]
@@ -151,10 +155,7 @@ impl Session {
             45..=99 if runner.expected().is_some() => (self.damage(), None),
             _ => {
                 let accounts = runner.accounts();
-                let (call, cost) = match playable(&expected.book) && self.random.chance(GAMES) {
-                    true => draw_game(&mut self.random, &expected.book, accounts),
-                    false => steered_call(&mut self.random, &expected.book, accounts),
-                };
+                let (call, cost) = any_call(&mut self.random, &expected.book, accounts);
                 match self.random.chance(12) {
                     true => self.edge(call, cost),
                     false => (Step::Call(call), cost),
@@ -302,6 +303,17 @@ fn named_account(call: &Call) -> Option<(u64, u32)> {
         | Call::Force { place, rounds, .. }
         | Call::React { place, rounds, .. } => Some((*place, *rounds)),
         _ => None,
+    }
+}
+
+/// A call of any kind.
+fn any_call(random: &mut Random, book: &Book, accounts: &[Account]) -> (Call, Option<Cost>) {
+    if playable(book) && random.chance(GAMES) {
+        return draw_game(random, book, accounts);
+    }
+    match loggable(book) && random.chance(LOGS) {
+        true => draw_logged(random, book),
+        false => steered_call(random, book, accounts),
     }
 }
 

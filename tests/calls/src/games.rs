@@ -49,7 +49,7 @@ pub fn playable(book: &Book) -> bool {
 }
 
 /// A relation, mostly a filled one.
-fn relation(random: &mut Random, book: &Book) -> u64 {
+pub fn relation(random: &mut Random, book: &Book) -> u64 {
     let filled = filled(book.relations());
     match random.below(100) {
         0..=2 => random.pick(&[8, 9, 255, u64::from(u32::MAX)]),

@@ -5,7 +5,7 @@
 //! - `kept` says which words a call may change;
 //! - `list` is a list of steps as lines of text;
 //! - `compare` and `run` make each step on the library and on the book, and compare;
-//! - `writer`, `call`, `games`, `limits` and `draw` draw formulas, calls, accounts and lists;
+//! - `writer`, `call`, `games`, `logs`, `limits` and `draw` draw formulas, calls, accounts and lists;
 //! - `turns` makes the calls of games as C does;
 //! - `records` writes calls as the program's records.
 //!
@@ -18,6 +18,7 @@ pub mod games;
 pub mod kept;
 pub mod limits;
 pub mod list;
+pub mod logs;
 pub mod records;
 pub mod run;
 pub mod sound;

@@ -8,6 +8,7 @@
 //! set 0 0 3 000601...      the account's place, r, R, framed formula
 //! force 0 5 9 0 6 2        the account's place, r, R, goal, guest, machine
 //! react 0 9 0 6 2 1 3      the account's place, R, goal, guest, machine, state, press
+//! logged 3 2 1:1,3:0 0:0,2:2  t, the list's places, mask:value of each entry of both logs; `-` for none
 //! clear 0
 //! collect
 //! node 0
@@ -21,6 +22,8 @@
 use reference::accounts::Account;
 use reference::book::Call;
 use reference::game::Named;
+use reference::lists::log_text;
+use reference::logs::{Entry, Log};
 use reference::random::Random;
 use std::fmt;
 
@@ -120,6 +123,18 @@ fn read_game([goal, guest, machine]: [&str; 3]) -> Option<Named> {
     })
 }
 
+fn read_log(text: &str) -> Option<Log> {
+    if text == "-" {
+        return Some(Log::new());
+    }
+    let entry = |text: &str| {
+        let (mask, value) = text.split_once(':')?;
+        let (mask, value) = (mask.parse().ok()?, value.parse().ok()?);
+        Some(Entry { mask, value })
+    };
+    text.split(',').map(entry).collect()
+}
+
 fn read_call(fields: &[&str]) -> Option<Call> {
     Some(match *fields {
         ["relation", t, bytes] => Call::Relation {
@@ -147,6 +162,12 @@ fn read_call(fields: &[&str]) -> Option<Call> {
             game: read_game([goal, guest, machine])?,
             state: state.parse().ok()?,
             press: press.parse().ok()?,
+        },
+        ["logged", t, places, one, two] => Call::Logged {
+            t: t.parse().ok()?,
+            one: read_log(one)?,
+            two: read_log(two)?,
+            places: places.parse().ok()?,
         },
         ["clear", r] => Call::Clear { r: r.parse().ok()? },
         ["collect"] => Call::Collect,
@@ -210,6 +231,12 @@ fn write_call(f: &mut fmt::Formatter<'_>, call: &Call) -> fmt::Result {
             state,
             press,
         } => write!(f, "react {place} {rounds} {game} {state} {press}"),
+        Call::Logged {
+            t,
+            one,
+            two,
+            places,
+        } => write!(f, "logged {t} {places} {} {}", log_text(one), log_text(two)),
         Call::Clear { r } => write!(f, "clear {r}"),
         Call::Valid { formula } => write!(f, "valid {}", hex(formula)),
         Call::Collect => write!(f, "collect"),

@@ -4,6 +4,7 @@
 use calls::call::draw_call;
 use calls::compare::make;
 use calls::games::{draw_game, playable};
+use calls::logs::{draw_logged, loggable};
 use calls::words::Words;
 use kudzuclamp::{Account, Table};
 use reference::book::{words_for, Answer, Book, Call, MAX_ROWS, REGISTERS};
@@ -70,9 +71,10 @@ fn draw(random: &mut Random) -> Answered {
     let mut calls = Vec::new();
     for _ in 0..25 {
         let (book, lent) = stood(&unit);
-        let (call, _) = match playable(&book) && random.chance(20) {
-            true => draw_game(random, &book, &lent),
-            false => draw_call(random, &book, &lent),
+        let (call, _) = match random.below(100) {
+            0..=19 if playable(&book) => draw_game(random, &book, &lent),
+            20..=34 if loggable(&book) => draw_logged(random, &book),
+            _ => draw_call(random, &book, &lent),
         };
         if unit.make(&call).number == 0 {
             calls.push(call);
@@ -134,7 +136,7 @@ fn told(call: &Call, answer: Answer) -> Answer {
 #[test]
 fn answered_lists_in_larger_tables() {
     let mut random = Random::new(9);
-    let (mut compared, mut wider) = (0, 0);
+    let (mut compared, mut wider, mut logged) = (0, 0, 0);
     for _ in 0..600 {
         let list = draw(&mut random);
         let mut small = Unit::new(list.n, list.rows, list.accounts.clone());
@@ -160,6 +162,7 @@ fn answered_lists_in_larger_tables() {
             );
             assert_eq!(large.same_nodes(), small.same_nodes(), "after {call:?}");
             compared += 1;
+            logged += u32::from(matches!(call, Call::Logged { .. }));
         }
         assert_eq!(large.tallies(), small.tallies());
         let (first, second) = (stood(&small).0, stood(&large).0);
@@ -168,4 +171,5 @@ fn answered_lists_in_larger_tables() {
         assert_eq!(first.valid(), second.valid());
     }
     assert!(compared > 8_000 && wider > 300, "{compared} {wider}");
+    assert!(logged > 400, "{logged} calls for two logs");
 }

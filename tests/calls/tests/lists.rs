@@ -96,14 +96,18 @@ fn random_lists() {
         sets,
         untils,
         games,
+        logs,
         ..
     } = totals.counts;
     for number in [0, 2, 3, 7, 8, 9, 14, 15] {
         assert!(games[number] > 0, "no call of a game gave {number}");
     }
+    for number in [0, 1, 2, 3, 7, 8, 10, 11] {
+        assert!(logs[number] > 0, "no call for two logs gave {number}");
+    }
     for number in (0..=9).chain([12, 14]) {
         assert!(numbers[number] > 0, "no call gave {number}");
-        // 1 is of fresh alone.
+        // 1 is of fresh and of logs alone.
         assert!(number == 1 || untils[number] > 0, "no until gave {number}");
     }
     let share = 100 * untils.iter().sum::<u64>() / sets;
@@ -132,6 +136,7 @@ fn report(totals: &Totals, seed: u64, lists: u64, seconds: f64) {
         sets,
         untils,
         games,
+        logs,
         peaks,
         questions,
         ..
@@ -158,7 +163,9 @@ fn report(totals: &Totals, seed: u64, lists: u64, seconds: f64) {
         by_number(&untils)
     );
     let of_games: u64 = games.iter().sum();
-    text += &format!("\ncalls of games {of_games}: {}\n", by_number(&games));
+    text += &format!("\ncalls of games {of_games}: {}", by_number(&games));
+    let of_logs: u64 = logs.iter().sum();
+    text += &format!("\ncalls for two logs {of_logs}: {}\n", by_number(&logs));
     stderr()
         .write_all(text.as_bytes())
         .expect("stderr takes text");

@@ -105,6 +105,17 @@ extern "C" {
         press: u32,
         answer: *mut u32,
     ) -> u32;
+    fn kudzuclamp_logged(
+        words: *mut u32,
+        words_len: usize,
+        list: *mut u16,
+        list_len: usize,
+        t: u32,
+        one: *const u16,
+        one_len: usize,
+        two: *const u16,
+        two_len: usize,
+    ) -> u32;
 }
 
 /// What stands in an answer before the call.
@@ -483,4 +494,54 @@ fn refused_answers() {
     assert_eq!(react(&mut words, 0, 4, [0, 0, 0], [0, 1]), [15, 0]);
     words[0] = 0;
     assert_eq!(react(&mut words, 1, 0, GAME, [4, 4]), [2, 0]);
+}
+
+/// The number of a call for a run of relation t, with the first so many numbers of each log and a list of so many
+/// places; only an answered one writes, and as many places as there are entries.
+fn logged(words: &mut [u32], t: u32, numbers: [usize; 2], places: usize) -> u32 {
+    // State 1; bit 1 off; a value outside its mask.
+    let (one, two) = ([3, 1, 0, 0, 0, 0], [0, 0, 2, 0, 2, 1]);
+    let mut list = vec![0xAAAA; places];
+    // SAFETY: pointers and lengths are those of slices, arrays and a vector.
+    let number = unsafe {
+        kudzuclamp_logged(
+            words.as_mut_ptr(),
+            words.len(),
+            list.as_mut_ptr(),
+            places,
+            t,
+            one[..numbers[0]].as_ptr(),
+            numbers[0],
+            two[..numbers[1]].as_ptr(),
+            numbers[1],
+        )
+    };
+    let written = list.iter().filter(|&&state| state != 0xAAAA).count();
+    assert_eq!(written, if number == 0 { numbers[0] / 2 } else { 0 });
+    number
+}
+
+#[test]
+fn refused_logs() {
+    let mut words = bar(100);
+    for numbers in [[0, 0], [1, 1], [3, 3], [2, 4], [4, 2]] {
+        assert_eq!(logged(&mut words, 8, numbers, 0), 1);
+    }
+    assert_eq!(logged(&mut words, 8, [2, 2], 0), 3);
+    assert_eq!(logged(&mut words, 2, [2, 2], 0), 7);
+    assert_eq!(logged(&mut words, 0, [6, 6], 0), 10);
+    assert_eq!(logged(&mut words, 0, [4, 4], 1), 11);
+    assert_eq!(logged(&mut words, 0, [4, 4], 2), 0);
+    assert_eq!(logged(&mut words, 1, [2, 2], 5), 0);
+    // Every pair of states: the first entry's state has two rows, though the last entry's has none.
+    let pairs = |rows| {
+        let mut table = Table::new(&mut [Account::unlimited()], 2, rows).unwrap();
+        table.relation(0, Formula::truth()).unwrap();
+        table.into_words()
+    };
+    assert_eq!(logged(&mut pairs(1), 0, [6, 6], 0), 8);
+    assert_eq!(logged(&mut pairs(2), 0, [6, 6], 0), 10);
+    words[0] = 0;
+    assert_eq!(logged(&mut words, 8, [2, 2], 0), 2);
+    assert_eq!(logged(&mut words, 8, [3, 3], 0), 1);
 }

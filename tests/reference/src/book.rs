@@ -4,6 +4,7 @@ use crate::accounts::{check_list, check_place, Account};
 use crate::evaluate::{self, Evaluated, Held, Limits};
 use crate::formula::{self, Formula, Kind};
 use crate::game::{self, Game, Made, Named};
+use crate::logs::{self, Entry};
 use crate::members::{members, Members, MAX_STATES};
 use crate::paths;
 use crate::refusal::Refusal;
@@ -46,6 +47,13 @@ pub enum Call {
         game: Named,
         state: u64,
         press: u64,
+    },
+    /// Slip 11: for a list of so many places.
+    Logged {
+        t: u64,
+        one: Vec<Entry>,
+        two: Vec<Entry>,
+        places: usize,
     },
     Clear {
         r: u64,
@@ -402,6 +410,33 @@ impl Book {
         Ok(run.into_iter().map(|state| state as u16).collect())
     }
 
+    /// Slip 11: the states of the run of relation t that fits two logs and is least
+    /// at each place, for a list of so many places. It changes nothing.
+    pub fn logged(
+        &self,
+        t: u64,
+        one: &[Entry],
+        two: &[Entry],
+        room: usize,
+    ) -> Result<Vec<u16>, Refusal> {
+        let moments = logs::moments(one, two)?;
+        let t = in_range(t, RELATIONS)?;
+        let relation = self.relations[t].as_ref().ok_or(Refusal::Empty)?;
+        let made = |place| logs::make_set(self.held(), self.rows, t, &moments, place);
+        let first = made(0)?.set;
+        let run = logs::logged(relation, &self.valid, &moments);
+        assert_eq!(run.is_none(), first.is_empty(), "another set is empty");
+        let run = run.ok_or(Refusal::NoRun)?;
+        if run.len() > room {
+            return Err(Refusal::ListTooShort);
+        }
+        for (place, &state) in run.iter().enumerate().skip(1) {
+            let set = made(place)?.set;
+            assert!(set.contains(state), "the run leaves its set");
+        }
+        Ok(run.into_iter().map(|state| state as u16).collect())
+    }
+
     /// The set in register r: checks 3 and 7.
     fn filled(&self, r: u64) -> Result<&StateSet, Refusal> {
         let r = in_range(r, REGISTERS)?;
@@ -426,6 +461,15 @@ impl Book {
                 answer.map(|set| Answer::counted(set.rounds, set.peak, set.node))
             }
             Call::Force { .. } | Call::React { .. } => self.call_game(accounts, call),
+            Call::Logged {
+                t,
+                one,
+                two,
+                places,
+            } => {
+                let run = self.logged(*t, one, two, *places);
+                run.map(|run| Answer::plain(logs::digits(self.n, &run)))
+            }
             Call::Clear { r } => self.clear(*r).map(|()| Answer::plain(0)),
             Call::Valid { formula } => self.make_valid(formula).map(|()| Answer::plain(0)),
             Call::Collect => Ok(Answer::plain(self.collect())),

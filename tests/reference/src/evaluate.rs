@@ -112,6 +112,36 @@ pub fn next_layer(
     Ok(layer.into_states())
 }
 
+/// Slip 11: "the states fitting both last entries". "The fitting states of a pair are
+/// one step, their AND with V another".
+pub fn fitting(held: Held, rows: usize, fit: &StateSet) -> Result<Evaluated<StateSet>, Refusal> {
+    let limits = Limits { rows, rounds: 0 };
+    let mut evaluator = Evaluator::new(held, limits, Kind::Set);
+    let set = evaluator.fitting(fit)?;
+    Ok(evaluator.done(set).map(Value::into_states))
+}
+
+/// Slip 11: the set of the moment before, "diamond of the later set AND the states
+/// fitting it"; "only the last set is live", until this one is made.
+pub fn set_before(
+    held: Held,
+    rows: usize,
+    t: usize,
+    later: &StateSet,
+    fit: &StateSet,
+) -> Result<Evaluated<StateSet>, Refusal> {
+    let limits = Limits { rows, rounds: 0 };
+    let mut evaluator = Evaluator::new(held, limits, Kind::Set);
+    let later = Value::States(later.clone());
+    evaluator.waiting.push(later.clone());
+    let before = evaluator.diamond(t, later)?;
+    evaluator.waiting.push(before.clone());
+    let fit = evaluator.fitting(fit)?;
+    evaluator.waiting.pop();
+    let set = evaluator.step(&[&before, &fit], before.and(&fit))?;
+    Ok(evaluator.done(set).map(Value::into_states))
+}
+
 impl<T> Evaluated<T> {
     fn map<U>(self, change: impl FnOnce(T) -> U) -> Evaluated<U> {
         Evaluated {
@@ -351,6 +381,12 @@ impl<'a> Evaluator<'a> {
             pairs = self.step(&[&pairs], pairs.exists_next(p))?;
         }
         Ok(Value::States(pairs.into_pairs().as_state_set()))
+    }
+
+    /// The states that fit, and those of them that exist.
+    fn fitting(&mut self, fit: &StateSet) -> Result<Value, Refusal> {
+        let fit = self.step(&[], Value::States(fit.clone()))?;
+        self.existing(fit)
     }
 
     /// "Mu starts from the empty set"; Slip 6: "nu starts from V". "An inner

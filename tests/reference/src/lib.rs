@@ -13,6 +13,7 @@ pub mod evaluate;
 pub mod formula;
 pub mod game;
 pub mod lists;
+pub mod logs;
 pub mod meaning;
 pub mod members;
 pub mod paths;

@@ -12,6 +12,8 @@
 //!                                     formula; value: node
 //! force 0 5 9 0 6 2    -> 0 3 7 -     account's place, r, R, goal, guest, machine
 //! react 0 9 0 6 2 1 3  -> 0 0 0 2     the same without r; state, press
+//! logged 3 2 1:1 0:0   -> 0 0 0 3     t, places, mask:value of each entry of both
+//!                                     logs; value: the states as digits behind a 1
 //! member 0 1           -> 0 0 0 1     number, rounds, peak, value; `-`: node
 //!                                     free
 //! register 0 11                       filled at the end, state 0 first
@@ -22,6 +24,7 @@
 use crate::accounts::{Account, MAX_ACCOUNTS};
 use crate::book::{words_for, Answer, Book, Call, MAX_ROWS};
 use crate::formula::{frame, Kind};
+use crate::logs::Entry;
 use crate::random::Random;
 use std::fmt::Write;
 
@@ -105,12 +108,32 @@ fn call_text(call: &Call) -> String {
             state,
             press,
         } => format!("react {place} {rounds} {game} {state} {press}"),
+        Call::Logged {
+            t,
+            one,
+            two,
+            places,
+        } => {
+            let [one, two] = [one, two].map(|log| log_text(log));
+            format!("logged {t} {places} {one} {two}")
+        }
         Call::Clear { r } => format!("clear {r}"),
         Call::Valid { formula } => format!("valid {}", hex(formula)),
         Call::Collect => "collect".to_string(),
         Call::Node { r } => format!("node {r}"),
         Call::Member { r, state } => format!("member {r} {state}"),
         Call::Count { r } => format!("count {r}"),
+    }
+}
+
+/// The entries of a log as mask:value, with commas between; `-` for none.
+pub fn log_text(log: &[Entry]) -> String {
+    let entries: Vec<String> = (log.iter())
+        .map(|entry| format!("{}:{}", entry.mask, entry.value))
+        .collect();
+    match entries.is_empty() {
+        true => "-".to_string(),
+        false => entries.join(","),
     }
 }
 

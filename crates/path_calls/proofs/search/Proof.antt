@@ -1,7 +1,8 @@
 -- `search` meets its contract: after forgetting, the table holds the scene of its own book; freeing keeps what registers and relations
 -- need. Assumes nothing.
 use mathlib.Core.Path.{refl, _∙_}
-use Rattle.path_calls.proofs.Searching.{start-base, search-asks, search-frees, search-done}
+use Rattle.path_calls.proofs.Opened.{start-base}
+use Rattle.path_calls.proofs.Searching.{search-asks, search-frees, search-done}
 use Rattle.memory.proofs.forget.Reads as forget-reads
 use Rattle.counting.proofs.begin.Reads as begin-reads
 use Rattle.collect.proofs.free_many.Reads as free-many-reads
@@ -19,7 +20,7 @@ search-spec =
     (λ c κs. search needs)
     (λ c. search needs)
     (λ c κs. (
-      start-base (c .before .before .before .before .before .before .before .before .pre)
+      start-base (c .before .before .before .before .before .before .before .before .pre .opens)
           (c .before .before .before .before .forget .ensures) .sound,
       refl,
     ))

@@ -14,10 +14,9 @@ run-step-spec =
       rw (c .before .before .step .given .1) at (c .before .before .before .before .before .pre .1),
     ))
     (λ c. search needs)
-    (λ c κs. search needs)
+    (λ c κs. c .before .before .before .before .before .pre .0)
     (λ c. search needs)
-    (λ c κs. let f = rw (c .before .before .step3 .given .1) at (c .before .before .before .before .before .pre .1) in
-    (c .before .before .before .before .before .pre .0, f .0, f .1))
+    (λ c κs. search needs)
     (λ c. search needs)
     (λ c κs. let f = rw (c .before .before .step4 .given .1) at (c .before .before .before .before .before .pre .1) in
     (c .before .before .before .before .before .pre .0, f .0, f .1))
@@ -28,14 +27,19 @@ run-step-spec =
     (λ c κs. let f = rw (c .before .before .step6 .given .1) at (c .before .before .before .before .before .pre .1) in
     (c .before .before .before .before .before .pre .0, f .0, f .1))
     (λ c. search needs)
+    (λ c κs. let f = rw (c .before .before .step7 .given .1) at (c .before .before .before .before .before .pre .1) in
+    (c .before .before .before .before .before .pre .0, f .0, f .1))
+    (λ c. search needs)
     (λ c. rw (c .before .before .before .before .before .step .given .1) (c .before .before .bit .ensures))
-    (λ c. let f = rw (c .before .before .step2 .given .1) at (c .before .before .before .before .before .pre .1) in
-    rw (c .before .before .step2 .given .1) (not-worked _ (c .before .before .before .before .before .pre .0) f (c .flip .ensures)))
     (λ c. search needs)
-    (λ c. rw (c .before .before .before .before .before .step3 .given .1) (c .before .before .and-of .ensures))
+    (λ c. rw (c .before .before .before .before .before .step2 .given .1) (c .before .before .cube .ensures))
+    (λ c. let f = rw (c .before .before .step3 .given .1) at (c .before .before .before .before .before .pre .1) in
+    rw (c .before .before .step3 .given .1) (not-worked _ (c .before .before .before .before .before .pre .0) f (c .flip .ensures)))
     (λ c. search needs)
-    (λ c. rw (c .before .before .before .before .before .step4 .given .1) (c .before .before .or-of .ensures))
+    (λ c. rw (c .before .before .before .before .before .step4 .given .1) (c .before .before .and-of .ensures))
     (λ c. search needs)
-    (λ c. rw (c .before .before .before .before .before .step5 .given .1) (c .before .before .shift .ensures))
+    (λ c. rw (c .before .before .before .before .before .step5 .given .1) (c .before .before .or-of .ensures))
     (λ c. search needs)
-    (λ c. rw (c .before .before .before .before .before .step6 .given .1) (c .before .before .exists .ensures)))
+    (λ c. rw (c .before .before .before .before .before .step6 .given .1) (c .before .before .shift .ensures))
+    (λ c. search needs)
+    (λ c. rw (c .before .before .before .before .before .step7 .given .1) (c .before .before .exists .ensures)))

@@ -1,0 +1,223 @@
+-- The call's contract from its checks and from its search. Assumes nothing.
+use mathlib.Core.Path.{_≡_, refl, sym, ap, _∙_, subst}
+use mathlib.Core.Logic.{_≢_}
+use mathlib.Core.Bool.{Bool, cond}
+use mathlib.Core.List.{List}
+use mathlib.Core.Option.{Option, none, some}
+use Prim.Native.Nat.{ℕ, suc, _+_, _-_, _%_, _≤_, _<_}
+use native.Mathlib.Omega.{arith}
+use lib.Dec.{T, eqb, leb, ltb, ltb→lt, lt→ltb, leb→le, le→leb, eqb→eq, eqb-refl}
+use lib.ListN.{length}
+use Rattle.mucalculus.proofs.Sets.{true-of, false-of, and-in, and-out}
+use Rattle.mucalculus.specs.Form.{Pairs, inside}
+use Rattle.layout.specs.Refusals.{keepsAll}
+use Rattle.layout.specs.Places.{BITS, ROWS, VALID, FIRST-RELATION}
+use Rattle.layout.specs.View.{View, view, headerOf}
+use Rattle.diagram.specs.Keep.{Keeps}
+use Rattle.diagram.proofs.Keep.{keeps-refl}
+use Rattle.rows.specs.Used.{rowsOf}
+use Rattle.rows.specs.Sound.{Sound, tableOf}
+use Rattle.rows.proofs.Filled.{filled-arrow}
+use Rattle.book.specs.Book.{Book, relations, liveOf, collect}
+use Rattle.book.specs.Table.{Reply, rootsOf}
+use Rattle.book.specs.BookOf.{bookOf}
+use Rattle.book.specs.Leaves.{plain}
+use Rattle.contract.specs.Seen.{seen, SoundWords}
+use Rattle.contract.proofs.Checked.{kept-refused}
+use Rattle.contract.proofs.Roots.{root-filled}
+use Rattle.paths.specs.Runs.{Outcome, full, none as noRun, short, found}
+use Rattle.paths.specs.Call.{Ended, refuse}
+use Rattle.formula_steps.proofs.After.{relation-is, same-table, rows-kept, words-kept, same-book}
+use Rattle.logs.specs.Runs.{momentAt, outcome}
+use Rattle.logs.specs.Call.{logsFit, after, ends, overFilled, logged}
+use Rattle.moments.specs.declared.Logged.{Logged}
+use Rattle.moments.specs.Sets.{Logs}
+use Rattle.moments.specs.Find.{loggedReply}
+use Rattle.log_calls.specs.Search.{Named, SearchPre, Searched, SearchPost}
+use Rattle.log_calls.specs.Post.{LogsFit, Told, LogPost}
+
+-- ---- the checks, by the book
+
+pub fit-yes : {one two : ℕ} → LogsFit one two → T (logsFit one two)
+fit-yes {one} {two} f =
+    and-in (eqb one two) _ (subst (λ (k : ℕ). T (eqb one k)) (f .equal) (eqb-refl one))
+    (and-in (eqb (one % 2) 0) _ (subst (λ (k : ℕ). T (eqb k 0)) (sym (f .whole)) tt)
+    (and-in (leb 1 one) _ (le→leb 1 one (f .some)) (le→leb one 2_048 (f .few))))
+
+pub yes-fit : (one two : ℕ) → T (logsFit one two) → LogsFit one two
+yes-fit one two h =
+    let a = and-out (eqb one two) _ h in
+    let b = and-out (eqb (one % 2) 0) _ (a .1) in
+    let c = and-out (leb 1 one) _ (b .1) in
+    record {
+      equal = eqb→eq one two (a .0);
+      whole = eqb→eq (one % 2) 0 (b .0);
+      some = leb→le 1 one (c .0);
+      few = leb→le one 2_048 (c .1);
+    }
+
+-- "A log length out of range or unequal gives 1"
+pub says-one : (bk : Book) (t : ℕ) (one two list : List ℕ) → (LogsFit (length one) (length two) → ⊥)
+    → logged bk t one two list ≡ refuse 1 list
+says-one bk t one two list n =
+    ap (λ (b : Bool). cond b (cond (ltb t relations) (overFilled bk (bk .rel t) one two list) (refuse 3 list)) (refuse 1 list))
+    (false-of (logsFit (length one) (length two)) (λ h. n (yes-fit (length one) (length two) h)))
+
+module _ (bk : Book) (t : ℕ) (one two list : List ℕ) (f : LogsFit (length one) (length two)) where
+  by-range : {r : Bool} → ltb t relations ≡ r
+      → logged bk t one two list ≡ cond r (overFilled bk (bk .rel t) one two list) (refuse 3 list)
+  by-range {r} e =
+      ap (λ (b : Bool). cond b (cond (ltb t relations) (overFilled bk (bk .rel t) one two list) (refuse 3 list)) (refuse 1 list))
+      (true-of (logsFit (length one) (length two)) (fit-yes f))
+      ∙ ap (λ (b : Bool). cond b (overFilled bk (bk .rel t) one two list) (refuse 3 list)) e
+
+  -- "register, relation or state number out of range"
+  pub says-three : (t < relations → ⊥) → logged bk t one two list ≡ refuse 3 list
+  says-three n = by-range (false-of (ltb t relations) (λ h. n (ltb→lt t relations h)))
+
+  module _ (r : t < relations) where
+    later : logged bk t one two list ≡ overFilled bk (bk .rel t) one two list
+    later = by-range (true-of (ltb t relations) (lt→ltb t relations r))
+
+    -- "register or relation named is empty"
+    pub says-seven : bk .rel t ≡ none → logged bk t one two list ≡ refuse 7 list
+    says-seven e = later ∙ ap (λ (o : Option Pairs). overFilled bk o one two list) e
+
+    -- and then the outcome of the steps
+    pub says-outcome : {R : Pairs} → bk .rel t ≡ some R
+        → logged bk t one two list
+        ≡ ends (outcome (bk .n) (bk .N) (liveOf bk) (inside (bk .rel t)) (bk .valid) (momentAt one two) (after one) (length list)) list
+    says-outcome e = later ∙ go (bk .rel t) e
+      where
+        go : {R : Pairs} (o : Option Pairs) → o ≡ some R
+            → overFilled bk o one two list
+            ≡ ends (outcome (bk .n) (bk .N) (liveOf bk) (inside o) (bk .valid) (momentAt one two) (after one) (length list)) list
+        go {R} o e = rw e refl
+
+-- ---- refusals by the checks
+
+module _ (t : ℕ) (one two ws list : List ℕ) where
+  -- what the book tells, with no word changed
+  told-stays : {e : Ended} → logged (bookOf (seen ws)) t one two list ≡ e → SoundWords ws
+      → Told t one two ws ws list (e .list) (e .reply)
+  told-stays is s = record {
+    reply = sym (ap (λ (x : Ended). x .reply) is);
+    list = sym (ap (λ (x : Ended). x .list) is);
+    sound = s;
+    rows = keeps-refl (s .good .rows) (λ r m. filled-arrow s r (root-filled (tableOf ws) (s .valid) r m));
+  }
+
+  -- CHECK 1
+  pub log-sizes : (LogsFit (length one) (length two) → ⊥) → LogPost t one two ws ws list list (plain 1)
+  log-sizes n = record {
+    sizes = λ _. ((refl, refl, refl, refl), refl, refl);
+    unsound = λ f. absurd (n f);
+    told = told-stays (says-one (bookOf (seen ws)) t one two list n);
+    book = refl;
+    kept = kept-refused collect 0 ws;
+  }
+
+  module _ (f : LogsFit (length one) (length two)) where
+    -- CHECK 2
+    pub log-unsound : (SoundWords ws → ⊥) → LogPost t one two ws ws list list (plain 2)
+    log-unsound n = record {
+      sizes = λ g. absurd (g f);
+      unsound = λ _ _. ((refl, refl, refl, refl), refl, refl);
+      told = λ s. absurd (n s);
+      book = refl;
+      kept = kept-refused collect 1 ws;
+    }
+
+    -- what the book tells, with no word changed, is the contract
+    pub log-stays : SoundWords ws → {e : Ended} → logged (bookOf (seen ws)) t one two list ≡ e
+        → LogPost t one two ws ws list (e .list) (e .reply)
+    log-stays s is = record {
+      sizes = λ g. absurd (g f);
+      unsound = λ _ n. absurd (n s);
+      told = told-stays is;
+      book = refl;
+      kept = record { all = λ _. refl; size = refl; header = λ h l i. refl; spare = λ i l. refl; beyond = λ p l. refl; exact = tt };
+    }
+
+    -- CHECKS 3 AND 7
+    pub log-range : SoundWords ws → (t < relations → ⊥) → LogPost t one two ws ws list list (plain 3)
+    log-range s n = log-stays s (says-three (bookOf (seen ws)) t one two list f n)
+
+    pub log-empty : SoundWords ws → t < relations → {z : ℕ} → z ≡ headerOf ws (FIRST-RELATION + t) → z ≡ 0
+        → LogPost t one two ws ws list list (plain 7)
+    log-empty s r e z = log-stays s (says-seven (bookOf (seen ws)) t one two list f r (relation-is ws r (sym z ∙ e)))
+
+-- ---- the search
+
+-- what it ends with is none of the checks' numbers
+late : (o : Outcome) (list : List ℕ) → T (keepsAll (ends o list .reply .number)) → ⊥
+late full list h = h
+late noRun list h = h
+late short list h = h
+late (found l) list h = h
+
+-- the logs, entry by entry
+pub logs-of : (one two : List ℕ) → LogsFit (length one) (length two) → Logs one two
+logs-of one two f =
+    let e = f .equal in
+    let w = f .whole in
+    let s = f .some in
+    let m = f .few in
+    record { first = omega (arith, w, s); second = omega (arith, e, w, s); few = omega (arith, w, s, m) }
+
+module _ {t : ℕ} (one two old : List ℕ) (f : LogsFit (length one) (length two)) (s : SoundWords old) (r : t < relations)
+    {rows bits v z : ℕ} (er : rows ≡ headerOf old ROWS) (eb : bits ≡ headerOf old BITS) (ev : v ≡ headerOf old VALID)
+    (ez : z ≡ headerOf old (FIRST-RELATION + t)) (fz : z ≢ 0) where
+  valid-some : v ≢ 0
+  valid-some e = s .valid (sym ev ∙ e)
+
+  pub valid-positive : 1 ≤ v
+  valid-positive = let n = valid-some in omega arith
+
+  names : Named (tableOf old) t (z - 1) (v - 1)
+  names = let n = valid-some in record { t-in = r; t-is = omega arith; v-is = omega arith }
+
+  pub call-asks : SearchPre bits rows rows (view rows old) (z - 1) (v - 1) one two
+  call-asks =
+      rw er
+      (record {
+        opens = record { sound = s; bits = eb; rows = refl; limit-le = omega arith };
+        rt = t;
+        named = names;
+        logs = logs-of one two f;
+      })
+
+  -- the book's own outcome
+  abbrev bookOutcome : List ℕ → Outcome
+  bookOutcome list =
+      outcome (headerOf old BITS) (headerOf old ROWS) (liveOf (bookOf (seen old))) (inside (bookOf (seen old) .rel t))
+      (bookOf (seen old) .valid) (momentAt one two) (after one) (length list)
+
+  by-book : (list : List ℕ) → logged (bookOf (seen old)) t one two list ≡ ends (bookOutcome list) list
+  by-book list =
+      let q : suc (z - 1) ≡ headerOf old (FIRST-RELATION + t) = omega arith in
+      says-outcome (bookOf (seen old)) t one two list f r (relation-is old r q)
+
+  pub call-ends : (new list left : List ℕ) {w : Logged}
+      → SearchPost bits rows (view rows old) (view rows new) (z - 1) (v - 1) one two list left w
+      → LogPost t one two old new list left (loggedReply w)
+  call-ends new list left {w} u =
+      let q : Searched bits rows (view rows old) (view rows new) t one two list left w = u t (rw er names) in
+      let d : Searched (headerOf old BITS) (headerOf old ROWS) (tableOf old) (view (headerOf old ROWS) new) t one two list left
+      w = rw (← eb, ← er) q in
+      let n : T (keepsAll (loggedReply w .number))
+      → ⊥ = λ h. late (bookOutcome list) list (subst (λ (x : Reply). T (keepsAll (x .number))) (d .told .reply) h) in
+      record {
+        sizes = λ g. absurd (g f);
+        unsound = λ _ g. absurd (g s);
+        told = λ _. record {
+          reply = d .told .reply ∙ sym (ap (λ (x : Ended). x .reply) (by-book list));
+          list = d .told .list ∙ sym (ap (λ (x : Ended). x .list) (by-book list));
+          sound = subst Sound (sym (same-table old new (loggedReply w) s (d .sound) (d .frame) (d .kept))) (d .sound);
+          rows = subst (λ (x : View). Keeps (seen old .rows) (rowsOf x) (rootsOf (seen old)))
+              (sym (same-table old new (loggedReply w) s (d .sound) (d .frame) (d .kept)))
+              (rows-kept old new (loggedReply w) s (d .sound) (d .frame) (d .kept));
+        };
+        book = same-book old new (loggedReply w) s (d .sound) (d .frame) (d .kept);
+        kept = words-kept old new (loggedReply w) s (d .sound) (d .frame) (d .kept) n;
+      }

@@ -1,0 +1,4 @@
+pub mod Searching
+pub mod Checks
+pub mod OneLogged
+pub mod Rests

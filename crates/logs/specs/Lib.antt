@@ -1,0 +1,4 @@
+pub mod Runs
+pub mod Call
+pub mod Exact
+pub mod Meaning
