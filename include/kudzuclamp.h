@@ -44,9 +44,9 @@
  * of its result and of all that was live at it, V and what registers and relations hold included; 0 where the formula takes no step. It
  * does not depend on N. Exactly where the peak would pass N, or for a set or force the lesser of N and its account's row limit, the call is
  * refused with KUDZUCLAMP_FULL instead. So to choose N, make the room's calls once on a table that is large enough: the greatest of their
- * peaks is the least N with which the same relation, set and force calls are all answered. valid, shortest and react may be full too, and
- * return no peak. After force the set that it stored is live in react, which may need more rows than force's *peak says; what it needs is
- * the *peak of the same force made once more.
+ * peaks is the least N with which the same relation, set and force calls are all answered. valid, shortest, react and logged may be full
+ * too, and return no peak. After force the set that it stored is live in react, which may need more rows than force's *peak says; what it
+ * needs is the *peak of the same force made once more.
  *
  * STACK. A call takes less than 160 KB of it, and more than 120 KB only on words whose lookup chains are longer than 32 rows (seen: 111 KB, a formula
  * of the greatest depth at n = 16). Where V is not every state and more than 2,048 rows are used, the check of the table takes up to 560 KB (seen: 522

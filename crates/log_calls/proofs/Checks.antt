@@ -28,13 +28,13 @@ use Rattle.contract.proofs.Roots.{root-filled}
 use Rattle.paths.specs.Runs.{Outcome, full, none as noRun, short, found}
 use Rattle.paths.specs.Call.{Ended, refuse}
 use Rattle.formula_steps.proofs.After.{relation-is, same-table, rows-kept, words-kept, same-book}
-use Rattle.logs.specs.Runs.{momentAt, outcome}
-use Rattle.logs.specs.Call.{logsFit, after, ends, overFilled, logged}
+use Rattle.logs.specs.Runs.{momentAt, logOutcome}
+use Rattle.logs.specs.Call.{logsFit, lastMoment, logEnds, loggedOver, logged}
 use Rattle.moments.specs.declared.Logged.{Logged}
 use Rattle.moments.specs.Sets.{Logs}
 use Rattle.moments.specs.Find.{loggedReply}
 use Rattle.log_calls.specs.Search.{Named, SearchPre, Searched, SearchPost}
-use Rattle.log_calls.specs.Post.{LogsFit, Told, LogPost}
+use Rattle.log_calls.specs.Post.{LogsFit, LogTold, LogPost}
 
 -- ---- the checks, by the book
 
@@ -60,38 +60,39 @@ yes-fit one two h =
 pub says-one : (bk : Book) (t : ℕ) (one two list : List ℕ) → (LogsFit (length one) (length two) → ⊥)
     → logged bk t one two list ≡ refuse 1 list
 says-one bk t one two list n =
-    ap (λ (b : Bool). cond b (cond (ltb t relations) (overFilled bk (bk .rel t) one two list) (refuse 3 list)) (refuse 1 list))
+    ap (λ (b : Bool). cond b (cond (ltb t relations) (loggedOver bk (bk .rel t) one two list) (refuse 3 list)) (refuse 1 list))
     (false-of (logsFit (length one) (length two)) (λ h. n (yes-fit (length one) (length two) h)))
 
 module _ (bk : Book) (t : ℕ) (one two list : List ℕ) (f : LogsFit (length one) (length two)) where
   by-range : {r : Bool} → ltb t relations ≡ r
-      → logged bk t one two list ≡ cond r (overFilled bk (bk .rel t) one two list) (refuse 3 list)
+      → logged bk t one two list ≡ cond r (loggedOver bk (bk .rel t) one two list) (refuse 3 list)
   by-range {r} e =
-      ap (λ (b : Bool). cond b (cond (ltb t relations) (overFilled bk (bk .rel t) one two list) (refuse 3 list)) (refuse 1 list))
+      ap (λ (b : Bool). cond b (cond (ltb t relations) (loggedOver bk (bk .rel t) one two list) (refuse 3 list)) (refuse 1 list))
       (true-of (logsFit (length one) (length two)) (fit-yes f))
-      ∙ ap (λ (b : Bool). cond b (overFilled bk (bk .rel t) one two list) (refuse 3 list)) e
+      ∙ ap (λ (b : Bool). cond b (loggedOver bk (bk .rel t) one two list) (refuse 3 list)) e
 
   -- "register, relation or state number out of range"
   pub says-three : (t < relations → ⊥) → logged bk t one two list ≡ refuse 3 list
   says-three n = by-range (false-of (ltb t relations) (λ h. n (ltb→lt t relations h)))
 
   module _ (r : t < relations) where
-    later : logged bk t one two list ≡ overFilled bk (bk .rel t) one two list
+    later : logged bk t one two list ≡ loggedOver bk (bk .rel t) one two list
     later = by-range (true-of (ltb t relations) (lt→ltb t relations r))
 
     -- "register or relation named is empty"
     pub says-seven : bk .rel t ≡ none → logged bk t one two list ≡ refuse 7 list
-    says-seven e = later ∙ ap (λ (o : Option Pairs). overFilled bk o one two list) e
+    says-seven e = later ∙ ap (λ (o : Option Pairs). loggedOver bk o one two list) e
 
     -- and then the outcome of the steps
     pub says-outcome : {R : Pairs} → bk .rel t ≡ some R
         → logged bk t one two list
-        ≡ ends (outcome (bk .n) (bk .N) (liveOf bk) (inside (bk .rel t)) (bk .valid) (momentAt one two) (after one) (length list)) list
+        ≡ logEnds
+        (logOutcome (bk .n) (bk .N) (liveOf bk) (inside (bk .rel t)) (bk .valid) (momentAt one two) (lastMoment one) (length list)) list
     says-outcome e = later ∙ go (bk .rel t) e
       where
         go : {R : Pairs} (o : Option Pairs) → o ≡ some R
-            → overFilled bk o one two list
-            ≡ ends (outcome (bk .n) (bk .N) (liveOf bk) (inside o) (bk .valid) (momentAt one two) (after one) (length list)) list
+            → loggedOver bk o one two list
+            ≡ logEnds (logOutcome (bk .n) (bk .N) (liveOf bk) (inside o) (bk .valid) (momentAt one two) (lastMoment one) (length list)) list
         go {R} o e = rw e refl
 
 -- ---- refusals by the checks
@@ -99,7 +100,7 @@ module _ (bk : Book) (t : ℕ) (one two list : List ℕ) (f : LogsFit (length on
 module _ (t : ℕ) (one two ws list : List ℕ) where
   -- what the book tells, with no word changed
   told-stays : {e : Ended} → logged (bookOf (seen ws)) t one two list ≡ e → SoundWords ws
-      → Told t one two ws ws list (e .list) (e .reply)
+      → LogTold t one two ws ws list (e .list) (e .reply)
   told-stays is s = record {
     reply = sym (ap (λ (x : Ended). x .reply) is);
     list = sym (ap (λ (x : Ended). x .list) is);
@@ -150,7 +151,7 @@ module _ (t : ℕ) (one two ws list : List ℕ) where
 -- ---- the search
 
 -- what it ends with is none of the checks' numbers
-late : (o : Outcome) (list : List ℕ) → T (keepsAll (ends o list .reply .number)) → ⊥
+late : (o : Outcome) (list : List ℕ) → T (keepsAll (logEnds o list .reply .number)) → ⊥
 late full list h = h
 late noRun list h = h
 late short list h = h
@@ -190,10 +191,10 @@ module _ {t : ℕ} (one two old : List ℕ) (f : LogsFit (length one) (length tw
   -- the book's own outcome
   abbrev bookOutcome : List ℕ → Outcome
   bookOutcome list =
-      outcome (headerOf old BITS) (headerOf old ROWS) (liveOf (bookOf (seen old))) (inside (bookOf (seen old) .rel t))
-      (bookOf (seen old) .valid) (momentAt one two) (after one) (length list)
+      logOutcome (headerOf old BITS) (headerOf old ROWS) (liveOf (bookOf (seen old))) (inside (bookOf (seen old) .rel t))
+      (bookOf (seen old) .valid) (momentAt one two) (lastMoment one) (length list)
 
-  by-book : (list : List ℕ) → logged (bookOf (seen old)) t one two list ≡ ends (bookOutcome list) list
+  by-book : (list : List ℕ) → logged (bookOf (seen old)) t one two list ≡ logEnds (bookOutcome list) list
   by-book list =
       let q : suc (z - 1) ≡ headerOf old (FIRST-RELATION + t) = omega arith in
       says-outcome (bookOf (seen old)) t one two list f r (relation-is old r q)

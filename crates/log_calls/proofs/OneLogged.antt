@@ -17,8 +17,8 @@ use Rattle.paths.specs.Call.{Ended}
 use Rattle.path_calls.specs.OnePath.{OnePath}
 use Rattle.path_calls.proofs.OnePath.{fixed}
 use Rattle.logs.specs.Runs.{momentAt}
-use Rattle.logs.specs.Call.{after, logged}
-use Rattle.logs.specs.Meaning.{Meant}
+use Rattle.logs.specs.Call.{lastMoment, logged}
+use Rattle.logs.specs.Meaning.{LogMeant}
 use Rattle.logs.proofs.Meaning.{logged-means}
 use Rattle.log_calls.specs.Post.{LogsFit, LogPost}
 
@@ -91,12 +91,12 @@ module _ (t : ℕ) (one two old : List ℕ) {v w list k l : List ℕ} {y z : Rep
 -- the list is too short for it, and every refusal keeps the list
 pub logged-plainly : (t : ℕ) {one two old new lent left : List ℕ} {y : Reply} → LogPost t one two old new lent left y
     → SoundWords old
-    → Meant (bookOf (seen old) .n) (inside (bookOf (seen old) .rel t)) (bookOf (seen old) .valid) (momentAt one two) (suc (after one)) lent
-    (record { reply = y; list = left })
+    → LogMeant (bookOf (seen old) .n) (inside (bookOf (seen old) .rel t)) (bookOf (seen old) .valid) (momentAt one two)
+    (suc (lastMoment one)) lent (record { reply = y; list = left })
 logged-plainly t {one} {two} {old} {new} {lent} {left} {y} p s =
     let q : Ended
-    → Type 0 = Meant (bookOf (seen old) .n) (inside (bookOf (seen old) .rel t)) (bookOf (seen old) .valid) (momentAt one two)
-    (suc (after one)) lent in
+    → Type 0 = LogMeant (bookOf (seen old) .n) (inside (bookOf (seen old) .rel t)) (bookOf (seen old) .valid) (momentAt one two)
+    (suc (lastMoment one)) lent in
     let is : logged (bookOf (seen old)) t one two lent
     ≡ record { reply = y; list = left } = λ i. record { reply = sym (p .told s .reply) i; list = sym (p .told s .list) i } in
     subst q is (logged-means (bookOf (seen old)) t one two lent)

@@ -19,9 +19,8 @@ pub record LogsFit (one two : ℕ) : Type 0 where
   pub few : one ≤ 2_048
 
 -- on a sound table: what is returned and what is written are those of the book that the words stand for, 1 too, and the words are sound
--- again,
--- with "registers, relations, rows they need" as they were, row by row
-pub record Told (t : ℕ) (one two old new lent left : List ℕ) (y : Reply) : Type 0 where
+-- again, with "registers, relations, rows they need" as they were, row by row
+pub record LogTold (t : ℕ) (one two old new lent left : List ℕ) (y : Reply) : Type 0 where
   pub reply : y ≡ logged (bookOf (seen old)) t one two lent .reply
   pub list : left ≡ logged (bookOf (seen old)) t one two lent .list
   pub sound : SoundWords new
@@ -33,7 +32,7 @@ pub record LogPost (t : ℕ) (one two old new lent left : List ℕ) (y : Reply) 
   pub sizes : (LogsFit (length one) (length two) → ⊥) → Refusal 1 y × (new ≡ old) × (left ≡ lent)
   -- "table unsound"
   pub unsound : LogsFit (length one) (length two) → (SoundWords old → ⊥) → Refusal 2 y × (new ≡ old) × (left ≡ lent)
-  pub told : SoundWords old → Told t one two old new lent left y
+  pub told : SoundWords old → LogTold t one two old new lent left y
   -- the words stand for the same book
   pub book : bookOf (seen new) ≡ bookOf (seen old)
   -- 1, 2, 3 and 7 keep all words; else no word changes but those of unneeded rows, of the index and of remembered results: as for collect,

@@ -13,8 +13,8 @@ use Rattle.rows.specs.Filled.{filled}
 use Rattle.operations.specs.Work.{OpFrame}
 use Rattle.book.specs.Book.{relations, liveOf}
 use Rattle.path_calls.specs.Search.{bookIn, Opens}
-use Rattle.logs.specs.Runs.{momentAt, outcome}
-use Rattle.logs.specs.Call.{after}
+use Rattle.logs.specs.Runs.{momentAt, logOutcome}
+use Rattle.logs.specs.Call.{lastMoment}
 use Rattle.moments.specs.declared.Logged.{Logged}
 use Rattle.moments.specs.Sets.{Logs}
 use Rattle.moments.specs.Find.{Told}
@@ -37,8 +37,8 @@ pub record Searched (n limit : ℕ) (W X : View) (rt : ℕ) (one two old new : L
   pub frame : OpFrame W X
   pub kept : Keeps (rowsOf W) (rowsOf X) (filled W)
   pub told : Told
-      (outcome n limit (liveOf (bookIn W)) (inside (bookIn W .rel rt)) (bookIn W .valid) (momentAt one two) (after one) (length old)) r
-      old new
+      (logOutcome n limit (liveOf (bookIn W)) (inside (bookIn W .rel rt)) (bookIn W .valid) (momentAt one two) (lastMoment one) (length old))
+      r old new
 
 abbrev pub SearchPost : ℕ → ℕ → View → View → ℕ → ℕ → List ℕ → List ℕ → List ℕ → List ℕ → Logged → Type 0
 SearchPost n limit W X t v one two old new r =

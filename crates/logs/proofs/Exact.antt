@@ -11,30 +11,30 @@ use Rattle.diagram.specs.Level.{Fn}
 use Rattle.book.specs.Run.{fit}
 use Rattle.paths.specs.Runs.{Outcome}
 use Rattle.paths.proofs.Decided.{fit-first, fit-both, passes-fit, decided-cause, by-cause}
-use Rattle.logs.specs.Runs.{Moment, fitting, isThrough, LeastThrough, thread, run, inhabited, setsOf, beforeNeeds, madeNeeds}
-use Rattle.logs.specs.Runs.{againNeeds, logNeeds, outcome}
-use Rattle.logs.specs.Exact.{Cause}
+use Rattle.logs.specs.Runs.{Moment, fitting, isThrough, LeastThrough, thread, run, inhabited, setsOf, beforeNeeds, setNeeds}
+use Rattle.logs.specs.Runs.{setsAgainNeeds, logNeeds, logOutcome}
+use Rattle.logs.specs.Exact.{LogCause}
 use Rattle.logs.proofs.Threads.{inter-out, run-inhabits, run-is, through-only}
 
 -- ---- needs
 
 module _ (n N : ℕ) (live : List Fn) (R : Pairs) (E : List Bool) (M : ℕ → Moment) where
   -- a set that is made on the way to another fits where that one does
-  pub made-less : (j i : ℕ) → T (fit N (madeNeeds n live R E M (suc j) i)) → T (fit N (madeNeeds n live R E M j (suc i)))
+  pub made-less : (j i : ℕ) → T (fit N (setNeeds n live R E M (suc j) i)) → T (fit N (setNeeds n live R E M j (suc i)))
   made-less j i =
-      fit-first N (madeNeeds n live R E M j (suc i)) (beforeNeeds n live R E (M i) (thread (2 ^ n) R (setsOf n E M) j (suc i)))
+      fit-first N (setNeeds n live R E M j (suc i)) (beforeNeeds n live R E (M i) (thread (2 ^ n) R (setsOf n E M) j (suc i)))
 
   -- sets that are made again have the needs that they had
-  pub again-fits : (j i : ℕ) → T (fit N (madeNeeds n live R E M j i)) → T (fit N (againNeeds n live R E M j i))
+  pub again-fits : (j i : ℕ) → T (fit N (setNeeds n live R E M j i)) → T (fit N (setsAgainNeeds n live R E M j i))
   again-fits zero i t = tt
   again-fits (suc j) i t =
       let h = made-less j i t in
-      fit-both N (madeNeeds n live R E M j (suc i)) (againNeeds n live R E M j (suc i)) h (again-fits j (suc i) h)
+      fit-both N (setNeeds n live R E M j (suc i)) (setsAgainNeeds n live R E M j (suc i)) h (again-fits j (suc i) h)
 
   -- so the first making of all sets decides 8
-  pub first-pass : (j : ℕ) → fit N (logNeeds n live R E M j) ≡ fit N (madeNeeds n live R E M j 0)
+  pub first-pass : (j : ℕ) → fit N (logNeeds n live R E M j) ≡ fit N (setNeeds n live R E M j 0)
   first-pass j =
-      passes-fit N (madeNeeds n live R E M j 0) (againNeeds n live R E M j 0)
+      passes-fit N (setNeeds n live R E M j 0) (setsAgainNeeds n live R E M j 0)
       (inhabited (2 ^ n) (thread (2 ^ n) R (setsOf n E M) j 0)) (again-fits j 0)
 
 -- ---- the causes
@@ -48,14 +48,14 @@ module _ (n N : ℕ) (live : List Fn) (R : Pairs) (E : List Bool) (M : ℕ → M
   A = setsOf n E M
 
   -- each comes by its cause
-  pub outcome-cause : Cause n N live R E M j room (outcome n N live R E M j room)
+  pub outcome-cause : LogCause n N live R E M j room (logOutcome n N live R E M j room)
   outcome-cause =
       decided-cause (λ l. T (isThrough R A j l)) (λ l. LeastThrough R A j l) (fit N (logNeeds n live R E M j))
       (inhabited (2 ^ n) (thread (2 ^ n) R A j 0)) (run (2 ^ n) R A j) room (run-is (2 ^ n) R A (sets-small n E M) j)
       (run-inhabits (2 ^ n) R A (sets-small n E M) j)
 
   -- so an outcome comes exactly by its cause: where no step is full, 10 exactly where no run exists
-  pub outcome-exact : (x : Outcome) → (outcome n N live R E M j room ≡ x) ↔ Cause n N live R E M j room x
-  outcome-exact x =
+  pub log-outcome-exact : (x : Outcome) → (logOutcome n N live R E M j room ≡ x) ↔ LogCause n N live R E M j room x
+  log-outcome-exact x =
       by-cause (λ l. T (isThrough R A j l)) (λ l. LeastThrough R A j l) (fit N (logNeeds n live R E M j)) room (λ l b. b .run)
-      (λ l m a b. through-only a b) (outcome n N live R E M j room) x outcome-cause
+      (λ l m a b. through-only a b) (logOutcome n N live R E M j room) x outcome-cause

@@ -10,7 +10,7 @@ use Rattle.book.specs.Ticks.{diaNeeds}
 use Rattle.book.specs.Run.{fit}
 use Rattle.book.proofs.Compute.{computing}
 use Rattle.paths.specs.Runs.{full, none, short, found}
-use Rattle.logs.specs.Runs.{Moment, fits, momentAt, existing, fitNeeds, outcome}
+use Rattle.logs.specs.Runs.{Moment, fits, momentAt, existing, fitNeeds, logOutcome}
 
 abbrev set : Bool → Bool → Bool → Bool → List Bool
 set a b c d = a ∷ b ∷ c ∷ d ∷ []
@@ -51,7 +51,7 @@ abbrev logs : ℕ → Moment
 logs = momentAt (3 ∷ 2 ∷ 2 ∷ 0 ∷ []) (0 ∷ 0 ∷ 0 ∷ 0 ∷ [])
 
 -- left before right: 3 rows are enough, where the fitting states before the diamond would not fit
-pub diamond-first : outcome 2 3 held anywhere every logs 1 2 ≡ found (2 ∷ 0 ∷ [])
+pub diamond-first : logOutcome 2 3 held anywhere every logs 1 2 ≡ found (2 ∷ 0 ∷ [])
 unfolding computing
 diamond-first = refl
 
@@ -64,21 +64,21 @@ unfolding computing
 fitting-first = refl
 
 -- a list that is one too short; and 10 before 11: the second entry fits no state, and there is no place in the list
-pub one-short : outcome 2 3 held anywhere every logs 1 1 ≡ short
+pub one-short : logOutcome 2 3 held anywhere every logs 1 1 ≡ short
 unfolding computing
 one-short = refl
 
-pub ten-first : outcome 2 9 held anywhere every (momentAt (3 ∷ 2 ∷ 0 ∷ 1 ∷ []) (0 ∷ 0 ∷ 0 ∷ 0 ∷ [])) 1 0 ≡ none
+pub ten-first : logOutcome 2 9 held anywhere every (momentAt (3 ∷ 2 ∷ 0 ∷ 1 ∷ []) (0 ∷ 0 ∷ 0 ∷ 0 ∷ [])) 1 0 ≡ none
 unfolding computing
 ten-first = refl
 
 -- all sets are made before 10 is decided: the last one is empty, and 8 comes first
-pub eight-first : outcome 2 2 held anywhere every (momentAt (3 ∷ 2 ∷ 0 ∷ 1 ∷ []) (0 ∷ 0 ∷ 0 ∷ 0 ∷ [])) 1 0 ≡ full
+pub eight-first : logOutcome 2 2 held anywhere every (momentAt (3 ∷ 2 ∷ 0 ∷ 1 ∷ []) (0 ∷ 0 ∷ 0 ∷ 0 ∷ [])) 1 0 ≡ full
 unfolding computing
 eight-first = refl
 
 -- states outside V do not exist: only 0 and 1 do, so the first entry fits none
-pub not-there : outcome 2 99 (fnOf 2 (set true true false false) ∷ []) anywhere (set true true false false) logs 1 2 ≡ none
+pub not-there : logOutcome 2 99 (fnOf 2 (set true true false false) ∷ []) anywhere (set true true false false) logs 1 2 ≡ none
 unfolding computing
 not-there = refl
 
@@ -89,12 +89,12 @@ abbrev bare : List Fn
 bare = fnOf 2 every ∷ fnOfPairs 2 anywhere ∷ []
 
 -- the later set is live until the new one is made: 4 rows would be enough where it was freed after SHIFT
-pub later-live : outcome 2 4 bare anywhere every (momentAt (0 ∷ 0 ∷ 3 ∷ 3 ∷ []) (0 ∷ 0 ∷ 0 ∷ 0 ∷ [])) 1 2 ≡ full
+pub later-live : logOutcome 2 4 bare anywhere every (momentAt (0 ∷ 0 ∷ 3 ∷ 3 ∷ []) (0 ∷ 0 ∷ 0 ∷ 0 ∷ [])) 1 2 ≡ full
 unfolding computing
 later-live = refl
 
 -- and no other: 5 rows are enough, where the set after it would take a sixth
-pub only-later : outcome 2 5 bare anywhere every (momentAt (0 ∷ 0 ∷ 3 ∷ 0 ∷ 3 ∷ 3 ∷ []) (0 ∷ 0 ∷ 0 ∷ 0 ∷ 0 ∷ 0 ∷ [])) 2 3
+pub only-later : logOutcome 2 5 bare anywhere every (momentAt (0 ∷ 0 ∷ 3 ∷ 0 ∷ 3 ∷ 3 ∷ []) (0 ∷ 0 ∷ 0 ∷ 0 ∷ 0 ∷ 0 ∷ [])) 2 3
     ≡ found (0 ∷ 0 ∷ 3 ∷ [])
 unfolding computing
 only-later = refl

@@ -16,10 +16,10 @@ use Rattle.diagram.specs.Level.{Fn}
 use Rattle.book.specs.Book.{Book, relations, liveOf}
 use Rattle.paths.specs.Runs.{Outcome, full, none as noRun, short, found}
 use Rattle.paths.specs.Call.{refuse}
-use Rattle.logs.specs.Runs.{Moment, momentAt, fitsBoth, fitting, setsOf, through, isThrough, outcome}
-use Rattle.logs.specs.Call.{logsFit, after, ends, overFilled, logged}
-use Rattle.logs.specs.Exact.{Cause}
-use Rattle.logs.specs.Meaning.{LoggedRun, Meant}
+use Rattle.logs.specs.Runs.{Moment, momentAt, fitsBoth, fitting, setsOf, through, isThrough, logOutcome}
+use Rattle.logs.specs.Call.{logsFit, lastMoment, logEnds, loggedOver, logged}
+use Rattle.logs.specs.Exact.{LogCause}
+use Rattle.logs.specs.Meaning.{LoggedRun, LogMeant}
 use Rattle.logs.proofs.Threads.{inter-in, inter-out}
 use Rattle.logs.proofs.Exact.{outcome-cause}
 
@@ -108,7 +108,7 @@ module _ (n : ℕ) (R : Pairs) (E : List Bool) (M : ℕ → Moment) (j : ℕ) wh
 
 module _ (n : ℕ) (R : Pairs) (E : List Bool) (M : ℕ → Moment) (k : ℕ) (lent : List ℕ) where
   -- a check's number says nothing of runs
-  by-check : (c : ℕ) → (c ≡ 0 → ⊥) → (c ≡ 10 → ⊥) → (c ≡ 11 → ⊥) → Meant n R E M k lent (refuse c lent)
+  by-check : (c : ℕ) → (c ≡ 0 → ⊥) → (c ≡ 10 → ⊥) → (c ≡ 11 → ⊥) → LogMeant n R E M k lent (refuse c lent)
   by-check c a b d =
       record {
         answered = λ e. absurd (a e);
@@ -118,7 +118,7 @@ module _ (n : ℕ) (R : Pairs) (E : List Bool) (M : ℕ → Moment) (k : ℕ) (l
       }
 
 by-outcome : (n N : ℕ) (live : List Fn) (R : Pairs) (E : List Bool) (M : ℕ → Moment) (j : ℕ) (lent : List ℕ) (o : Outcome)
-    → Cause n N live R E M j (length lent) o → Meant n R E M (suc j) lent (ends o lent)
+    → LogCause n N live R E M j (length lent) o → LogMeant n R E M (suc j) lent (logEnds o lent)
 by-outcome n N live R E M j lent full c =
     by-check n R E M (suc j) lent 8 (λ e. absurd (omega (arith, e))) (λ e. absurd (omega (arith, e))) (λ e. absurd (omega (arith, e)))
 by-outcome n N live R E M j lent noRun c = record {
@@ -145,22 +145,22 @@ by-outcome n N live R E M j lent (found l) c = record {
 
 -- the call, over the pairs in relation t and V
 pub logged-means : (bk : Book) (t : ℕ) (one two lent : List ℕ)
-    → Meant (bk .n) (inside (bk .rel t)) (bk .valid) (momentAt one two) (suc (after one)) lent (logged bk t one two lent)
+    → LogMeant (bk .n) (inside (bk .rel t)) (bk .valid) (momentAt one two) (suc (lastMoment one)) lent (logged bk t one two lent)
 logged-means bk t one two lent = go (logsFit (length one) (length two)) (ltb t relations) (bk .rel t)
   where
     go : (f r : Bool) (o : Option Pairs)
-        → Meant (bk .n) (inside o) (bk .valid) (momentAt one two) (suc (after one)) lent
-        (cond f (cond r (overFilled bk o one two lent) (refuse 3 lent)) (refuse 1 lent))
+        → LogMeant (bk .n) (inside o) (bk .valid) (momentAt one two) (suc (lastMoment one)) lent
+        (cond f (cond r (loggedOver bk o one two lent) (refuse 3 lent)) (refuse 1 lent))
     go false r o =
-        by-check (bk .n) (inside o) (bk .valid) (momentAt one two) (suc (after one)) lent 1 (λ e. absurd (omega (arith, e)))
+        by-check (bk .n) (inside o) (bk .valid) (momentAt one two) (suc (lastMoment one)) lent 1 (λ e. absurd (omega (arith, e)))
         (λ e. absurd (omega (arith, e))) (λ e. absurd (omega (arith, e)))
     go true false o =
-        by-check (bk .n) (inside o) (bk .valid) (momentAt one two) (suc (after one)) lent 3 (λ e. absurd (omega (arith, e)))
+        by-check (bk .n) (inside o) (bk .valid) (momentAt one two) (suc (lastMoment one)) lent 3 (λ e. absurd (omega (arith, e)))
         (λ e. absurd (omega (arith, e))) (λ e. absurd (omega (arith, e)))
     go true true none =
-        by-check (bk .n) (inside none) (bk .valid) (momentAt one two) (suc (after one)) lent 7 (λ e. absurd (omega (arith, e)))
+        by-check (bk .n) (inside none) (bk .valid) (momentAt one two) (suc (lastMoment one)) lent 7 (λ e. absurd (omega (arith, e)))
         (λ e. absurd (omega (arith, e))) (λ e. absurd (omega (arith, e)))
     go true true (some R) =
-        by-outcome (bk .n) (bk .N) (liveOf bk) R (bk .valid) (momentAt one two) (after one) lent
-        (outcome (bk .n) (bk .N) (liveOf bk) R (bk .valid) (momentAt one two) (after one) (length lent))
-        (outcome-cause (bk .n) (bk .N) (liveOf bk) R (bk .valid) (momentAt one two) (after one) (length lent))
+        by-outcome (bk .n) (bk .N) (liveOf bk) R (bk .valid) (momentAt one two) (lastMoment one) lent
+        (logOutcome (bk .n) (bk .N) (liveOf bk) R (bk .valid) (momentAt one two) (lastMoment one) (length lent))
+        (outcome-cause (bk .n) (bk .N) (liveOf bk) R (bk .valid) (momentAt one two) (lastMoment one) (length lent))

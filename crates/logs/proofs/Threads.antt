@@ -14,7 +14,7 @@ use Rattle.paths.specs.Runs.{Least, common, toward}
 use Rattle.paths.proofs.First.{first-least, Onto, toward-least, toward-is}
 use Rattle.paths.proofs.Layers.{next-in, next-out, meets-in, meets-out}
 use Rattle.paths.proofs.Written.{least-same}
-use Rattle.logs.specs.Runs.{through, isThrough, LeastThrough, thread, onward, run, inhabited}
+use Rattle.logs.specs.Runs.{through, isThrough, LeastThrough, thread, leastRest, run, inhabited}
 
 -- ---- sets of k states
 
@@ -67,28 +67,28 @@ module _ (k : ℕ) (R : Pairs) (A : ℕ → List Bool) (small : (i s : ℕ) → 
       toward-is (next-out k R X s (inter-out k (sometimes k R X) (A i) s t .1) .1)
 
   -- so the least next states make a run
-  pub onward-runs : (j i s : ℕ) → T (mem (thread k R A j i) s) → T (through R A j i s (onward k R A j i s))
-  onward-runs zero i s t = t
-  onward-runs (suc j) i s t =
+  pub rest-runs : (j i s : ℕ) → T (mem (thread k R A j i) s) → T (through R A j i s (leastRest k R A j i s))
+  rest-runs zero i s t = t
+  rest-runs (suc j) i s t =
       let w = onto j i s t in
       and-in (mem (A i) s) _ (inter-out k (sometimes k R (thread k R A j (suc i))) (A i) s t .2)
       (and-in (pair R s (toward k R (thread k R A j (suc i)) s)) _ (w .next)
-      (onward-runs j (suc i) (toward k R (thread k R A j (suc i)) s) (w .inside)))
+      (rest-runs j (suc i) (toward k R (thread k R A j (suc i)) s) (w .inside)))
 
-  pub onward-length : (j i s : ℕ) → length (onward k R A j i s) ≡ j
-  onward-length zero i s = refl
-  onward-length (suc j) i s = ap suc (onward-length j (suc i) (toward k R (thread k R A j (suc i)) s))
+  pub rest-length : (j i s : ℕ) → length (leastRest k R A j i s) ≡ j
+  rest-length zero i s = refl
+  rest-length (suc j) i s = ap suc (rest-length j (suc i) (toward k R (thread k R A j (suc i)) s))
 
   -- and no run from s is less at the first place where they differ
-  pub onward-least : (j i s : ℕ) (m : List ℕ) → T (through R A j i s m) → Least (onward k R A j i s) m
-  onward-least zero i s m r = tt
-  onward-least (suc j) i s [] r = tt
-  onward-least (suc j) i s (t ∷ m) r =
+  pub rest-least : (j i s : ℕ) (m : List ℕ) → T (through R A j i s m) → Least (leastRest k R A j i s) m
+  rest-least zero i s m r = tt
+  rest-least (suc j) i s [] r = tt
+  rest-least (suc j) i s (t ∷ m) r =
       let w = and-out (pair R s t) _ (and-out (mem (A i) s) _ r .1) in
       let q = thread-in j (suc i) t m (w .1) in
       let o : Onto k R (thread k R A j (suc i)) s t = record { state = thread-lt j (suc i) t q; next = w .0; inside = q } in (
         toward-least o,
-        λ e. onward-least j (suc i) (toward k R (thread k R A j (suc i)) s) m
+        λ e. rest-least j (suc i) (toward k R (thread k R A j (suc i)) s) m
             (subst (λ (x : ℕ). T (through R A j (suc i) x m)) (sym e) (w .1)),
       )
 
@@ -104,20 +104,20 @@ module _ (k : ℕ) (R : Pairs) (A : ℕ → List Bool) (small : (i s : ℕ) → 
     run-inhabits (s ∷ l) t = let q = thread-in j 0 s l t in meets-in k X X s (thread-lt j 0 s q) q q
 
     pub run-size : length (run k R A j) ≡ suc j
-    run-size = ap suc (onward-length j 0 (common k X X))
+    run-size = ap suc (rest-length j 0 (common k X X))
 
     run-least : (m : List ℕ) → T (isThrough R A j m) → Least (run k R A j) m
     run-least [] t = tt
     run-least (u ∷ m) t =
         let q = thread-in j 0 u m t in (
           first-least k (λ s. mem X s && mem X s) u (thread-lt j 0 u q) (and-in (mem X u) _ q q),
-          λ e. onward-least j 0 (common k X X) m (subst (λ (x : ℕ). T (through R A j 0 x m)) (sym e) t),
+          λ e. rest-least j 0 (common k X X) m (subst (λ (x : ℕ). T (through R A j 0 x m)) (sym e) t),
         )
 
     -- where it has one, the run that is written is the least
     pub run-is : T (inhabited k X) → LeastThrough R A j (run k R A j)
     run-is h = record {
-      run = onward-runs j 0 (common k X X) (meets-out k X X h .1);
+      run = rest-runs j 0 (common k X X) (meets-out k X X h .1);
       size = run-size;
       least = run-least;
     }

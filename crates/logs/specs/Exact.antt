@@ -11,6 +11,6 @@ use Rattle.paths.specs.Exact.{CauseOf}
 use Rattle.logs.specs.Runs.{Moment, isThrough, LeastThrough, setsOf, logNeeds}
 
 -- what each outcome says: runs of j + 1 states that fit both logs, and the one of them that is least
-abbrev pub Cause : ℕ → ℕ → List Fn → Pairs → List Bool → (ℕ → Moment) → ℕ → ℕ → Outcome → Type 0
-Cause n N live R E M j room o =
+abbrev pub LogCause : ℕ → ℕ → List Fn → Pairs → List Bool → (ℕ → Moment) → ℕ → ℕ → Outcome → Type 0
+LogCause n N live R E M j room o =
     CauseOf (fit N (logNeeds n live R E M j)) (λ l. T (isThrough R (setsOf n E M) j l)) (λ l. LeastThrough R (setsOf n E M) j l) room o

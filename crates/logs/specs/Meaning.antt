@@ -22,7 +22,7 @@ pub record LoggedRun (n : ℕ) (R : Pairs) (E : List Bool) (M : ℕ → Moment) 
   pub next : (i : ℕ) → suc i < k → T (pair R (getD l i 0) (getD l (suc i) 0))
 
 -- over relation R within V, which is E, and k moments, with a list before and what the call ends with
-pub record Meant (n : ℕ) (R : Pairs) (E : List Bool) (M : ℕ → Moment) (k : ℕ) (lent : List ℕ) (e : Ended) : Type 0 where
+pub record LogMeant (n : ℕ) (R : Pairs) (E : List Bool) (M : ℕ → Moment) (k : ℕ) (lent : List ℕ) (e : Ended) : Type 0 where
   -- a run that fits both logs, the least possible at each place in turn, is written
   pub answered : e .reply .number ≡ 0
       → (l : List ℕ) × LoggedRun n R E M k l × ((m : List ℕ) → LoggedRun n R E M k m → Least l m) × (length l ≤ length lent)

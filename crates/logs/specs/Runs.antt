@@ -15,7 +15,7 @@ use Rattle.diagram.specs.Need.{stepNeed}
 use Rattle.book.specs.Bridge.{fnOf}
 use Rattle.book.specs.Ticks.{diaNeeds, twoNeed}
 use Rattle.book.specs.Run.{fit}
-use Rattle.paths.specs.Runs.{Least, common, meets, toward, passes, Outcome, decided}
+use Rattle.paths.specs.Runs.{Least, common, meets, toward, passNeeds, Outcome, decided}
 
 -- ---- what the logs say
 
@@ -82,13 +82,13 @@ thread k R A (suc j) i = inter k (sometimes k R (thread k R A j (suc i))) (A i)
 -- ---- the run that is written
 
 -- the least next state of s in the set after set i, then that one's in the next, through j sets
-abbrev pub onward : ℕ → Pairs → (ℕ → List Bool) → ℕ → ℕ → ℕ → List ℕ
-onward k R A zero i s = []
-onward k R A (suc j) i s = let t = toward k R (thread k R A j (suc i)) s in t ∷ onward k R A j (suc i) t
+abbrev pub leastRest : ℕ → Pairs → (ℕ → List Bool) → ℕ → ℕ → ℕ → List ℕ
+leastRest k R A zero i s = []
+leastRest k R A (suc j) i s = let t = toward k R (thread k R A j (suc i)) s in t ∷ leastRest k R A j (suc i) t
 
 -- from the least state of the first set
 abbrev pub run : ℕ → Pairs → (ℕ → List Bool) → ℕ → List ℕ
-run k R A j = let X = thread k R A j 0 in let s = common k X X in s ∷ onward k R A j 0 s
+run k R A j = let X = thread k R A j 0 in let s = common k X X in s ∷ leastRest k R A j 0 s
 
 -- ---- steps, over n state bits
 
@@ -109,15 +109,15 @@ abbrev pub setsOf : ℕ → List Bool → (ℕ → Moment) → ℕ → List Bool
 setsOf n E M i = existing (2 ^ n) E (M i)
 
 -- of the steps that make set i, j moments before the last one, from that one on
-abbrev pub madeNeeds : ℕ → List Fn → Pairs → List Bool → (ℕ → Moment) → ℕ → ℕ → List ℕ
-madeNeeds n live R E M zero i = fitNeeds n live E (M i)
-madeNeeds n live R E M (suc j) i =
-    madeNeeds n live R E M j (suc i) ++ beforeNeeds n live R E (M i) (thread (2 ^ n) R (setsOf n E M) j (suc i))
+abbrev pub setNeeds : ℕ → List Fn → Pairs → List Bool → (ℕ → Moment) → ℕ → ℕ → List ℕ
+setNeeds n live R E M zero i = fitNeeds n live E (M i)
+setNeeds n live R E M (suc j) i =
+    setNeeds n live R E M j (suc i) ++ beforeNeeds n live R E (M i) (thread (2 ^ n) R (setsOf n E M) j (suc i))
 
 -- "sets are made again": of those after set i the first, then the second, and so on, each from the last on
-abbrev pub againNeeds : ℕ → List Fn → Pairs → List Bool → (ℕ → Moment) → ℕ → ℕ → List ℕ
-againNeeds n live R E M zero i = []
-againNeeds n live R E M (suc j) i = madeNeeds n live R E M j (suc i) ++ againNeeds n live R E M j (suc i)
+abbrev pub setsAgainNeeds : ℕ → List Fn → Pairs → List Bool → (ℕ → Moment) → ℕ → ℕ → List ℕ
+setsAgainNeeds n live R E M zero i = []
+setsAgainNeeds n live R E M (suc j) i = setNeeds n live R E M j (suc i) ++ setsAgainNeeds n live R E M j (suc i)
 
 -- a set has a state
 abbrev pub inhabited : ℕ → List Bool → Bool
@@ -126,13 +126,13 @@ inhabited k X = meets k X X
 -- of all steps of the call: "All k sets are made before 10 is decided", and again where a run is to be written
 abbrev pub logNeeds : ℕ → List Fn → Pairs → List Bool → (ℕ → Moment) → ℕ → List ℕ
 logNeeds n live R E M j =
-    passes (madeNeeds n live R E M j 0) (againNeeds n live R E M j 0) (inhabited (2 ^ n) (thread (2 ^ n) R (setsOf n E M) j 0))
+    passNeeds (setNeeds n live R E M j 0) (setsAgainNeeds n live R E M j 0) (inhabited (2 ^ n) (thread (2 ^ n) R (setsOf n E M) j 0))
 
 -- ---- the outcome
 
 -- 8 before 10, 10 before 11, as the shortest run has it
-abbrev pub outcome : ℕ → ℕ → List Fn → Pairs → List Bool → (ℕ → Moment) → ℕ → ℕ → Outcome
-outcome n N live R E M j room =
+abbrev pub logOutcome : ℕ → ℕ → List Fn → Pairs → List Bool → (ℕ → Moment) → ℕ → ℕ → Outcome
+logOutcome n N live R E M j room =
     let k = 2 ^ n in
     let A = setsOf n E M in
     decided (fit N (logNeeds n live R E M j)) (inhabited k (thread k R A j 0)) (run k R A j) room

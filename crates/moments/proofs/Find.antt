@@ -26,8 +26,8 @@ use Rattle.layers.specs.Pass.{Steps}
 use Rattle.layers.proofs.Pass.{holds-pre, both-mem}
 use Rattle.routes.proofs.Write.{put-written, start-later, scene-later, state-small}
 use Rattle.routes.proofs.Find.{steps-then}
-use Rattle.logs.specs.Runs.{momentAt, setsOf, run, inhabited, logNeeds, outcome}
-use Rattle.logs.specs.Call.{after}
+use Rattle.logs.specs.Runs.{momentAt, setsOf, run, inhabited, logNeeds, logOutcome}
+use Rattle.logs.specs.Call.{lastMoment}
 use Rattle.logs.proofs.Exact.{first-pass, sets-small}
 use Rattle.logs.proofs.Threads.{run-size}
 use Rattle.moments.specs.Sets.{setOf, needsOf, Threaded, MakePre, Ends, is-full, MakePost}
@@ -41,7 +41,7 @@ use Rattle.moments.proofs.Write.{set-made, never-full}
 
 module _ {n : ℕ} {W : View} {t v : ℕ} (limit : ℕ) (S : Scene n W t v) (one two : List ℕ) (j room : ℕ) where
   abbrev out : Outcome
-  out = outcome n limit (S .fs) (S .R) (S .B) (momentAt one two) j room
+  out = logOutcome n limit (S .fs) (S .R) (S .B) (momentAt one two) j room
 
   abbrev whole : List ℕ
   whole = run (2 ^ n) (S .R) (setsOf n (S .B) (momentAt one two)) j
@@ -83,11 +83,11 @@ module _ {n N limit : ℕ} {W : View} {t v : ℕ} {one two : List ℕ} (p : Find
 
   -- how many moments come after the first
   abbrev j : ℕ
-  j = after one
+  j = lastMoment one
 
   module _ {X : View} {o : Made} (f : MakePost n limit W X t v one two 0 o) where
     ended : (S : Scene n W t v) → Ends n limit W X t v S one two j 0 o
-    ended S = let e : after one - 0 ≡ j = omega arith in subst (λ (j : ℕ). Ends n limit W X t v S one two j 0 o) e (f S)
+    ended S = let e : lastMoment one - 0 ≡ j = omega arith in subst (λ (j : ℕ). Ends n limit W X t v S one two j 0 o) e (f S)
 
     pub find-full : {old : List ℕ} → o ≡ made.Full → FindPost n limit W X t v one two old old (answer.Refused refusal.Full)
     find-full {old} e S =

@@ -35,7 +35,7 @@ use Rattle.layers.specs.Scene.{Scene}
 use Rattle.layers.specs.Pass.{Steps}
 use Rattle.layers.proofs.Scene.{filled-same, matches-at, matches-full}
 use Rattle.logs.specs.Runs.{momentAt, existing, fitNeeds, beforeNeeds}
-use Rattle.logs.specs.Call.{after}
+use Rattle.logs.specs.Call.{lastMoment}
 use Rattle.logs.proofs.Exact.{made-less}
 use Rattle.moments.specs.Moment.{Asks, Has}
 use Rattle.moments.specs.Fitting.{FittingPost}
@@ -90,15 +90,15 @@ module _ {n : ℕ} {W : View} {t v : ℕ} (limit : ℕ) (S : Scene n W t v) (one
 -- ---- the last moment
 
 -- both logs have each entry
-pub entry-at : {one two : List ℕ} → Logs one two → {i : ℕ} → i ≤ after one → Has one two i
+pub entry-at : {one two : List ℕ} → Logs one two → {i : ℕ} → i ≤ lastMoment one → Has one two i
 entry-at g h = let l = g .first in let m = g .second in record { first = omega (arith, l, h); second = omega (arith, m, h) }
 
 -- the states that fit are the last set
 pub last-ends : {n N : ℕ} (limit : ℕ) {W X : View} {v : ℕ} (one two : List ℕ) {mask value : ℕ} {o : Taken}
-    → Asks (momentAt one two (after one)) mask value → FittingPost n N limit W X [] v mask value (uncounted N) o
+    → Asks (momentAt one two (lastMoment one)) mask value → FittingPost n N limit W X [] v mask value (uncounted N) o
     → LastPost n N limit W X v one two o
 last-ends {n} {N} limit {W} {X} {v} one two {mask} {value} {o} m f fs E h d =
-    ran-fitting n N limit W X [] v mask value (uncounted N) o f fs E (momentAt one two (after one)) h d m
+    ran-fitting n N limit W X [] v mask value (uncounted N) o f fs E (momentAt one two (lastMoment one)) h d m
 
 module _ {n N limit : ℕ} {W : View} {t v : ℕ} {one two : List ℕ} {p : ℕ} (a : MakePre n N limit W t v one two p) where
   -- its step asks for no root
@@ -114,7 +114,7 @@ module _ {n N limit : ℕ} {W : View} {t v : ℕ} {one two : List ℕ} {p : ℕ}
 
   module _ {X : View} {o : Taken} (f : LastPost n N limit W X v one two o) where
     abbrev i : ℕ
-    i = after one
+    i = lastMoment one
 
     ran-last : (S : Scene n W t v) → Ran n N W X (live W []) (fit limit (fitNeeds n (S .fs) (S .B) (momentAt one two i)))
         (fnOf n (existing (2 ^ n) (S .B) (momentAt one two i)))
@@ -137,7 +137,7 @@ module _ {n N limit : ℕ} {W : View} {t v : ℕ} {one two : List ℕ} {p : ℕ}
     last-full e S =
         let s = a .inside in
         is-full (last-steps S)
-        (full-before limit S one two 0 i (after one - p) p s (omega (arith, s)) (ran-full (ran-last S) e))
+        (full-before limit S one two 0 i (lastMoment one - p) p s (omega (arith, s)) (ran-full (ran-last S) e))
 
 -- ---- the moments before
 
@@ -199,15 +199,15 @@ module _ {n N limit : ℕ} {W : View} {t v : ℕ} {one two : List ℕ} {p : ℕ}
         subst (λ (j : ℕ). Threaded n limit W Y t v S one two j b y) eJ
         (record { steps = steps-on S; set-is = w .1; fits = fit-by S ∙ w .0 })
 
-    pub turn-full : p ≤ b → i + j ≡ after one → o ≡ taken.Full → MakePost n limit W Y t v one two p made.Full
+    pub turn-full : p ≤ b → i + j ≡ lastMoment one → o ≡ taken.Full → MakePost n limit W Y t v one two p made.Full
     turn-full l k e S =
         is-full (steps-on S)
-        (full-before limit S one two (suc j) b (after one - p) p l (omega (arith, l, k, eb)) (fit-by S ∙ ran-full (ran-before S) e))
+        (full-before limit S one two (suc j) b (lastMoment one - p) p l (omega (arith, l, k, eb)) (fit-by S ∙ ran-full (ran-before S) e))
 
   -- the set is reached
-  pub set-ends : i ≤ p → p ≤ i → i + j ≡ after one → MakePost n limit W X t v one two p (made.At x)
+  pub set-ends : i ≤ p → p ≤ i → i + j ≡ lastMoment one → MakePost n limit W X t v one two p (made.At x)
   set-ends l m k S =
       let a : i ≡ p = omega (arith, l, m) in
-      let b : j ≡ after one - p = omega (arith, k, l, m) in
-      is-made (subst (λ (i : ℕ). Threaded n limit W X t v S one two (after one - p) i x) a
+      let b : j ≡ lastMoment one - p = omega (arith, k, l, m) in
+      is-made (subst (λ (i : ℕ). Threaded n limit W X t v S one two (lastMoment one - p) i x) a
       (subst (λ (j : ℕ). Threaded n limit W X t v S one two j i x) b (h S)))

@@ -21,7 +21,7 @@ use Rattle.routes.specs.Write.{putAll, PlacePre, PlacePost}
 use Rattle.routes.proofs.Write.{step-found, step-asks, start-later, scene-later, steps-start}
 use Rattle.routes.proofs.Find.{steps-then}
 use Rattle.logs.specs.Runs.{momentAt, setsOf}
-use Rattle.logs.specs.Call.{after}
+use Rattle.logs.specs.Call.{lastMoment}
 use Rattle.logs.proofs.Exact.{made-less, sets-small}
 use Rattle.logs.proofs.Threads.{thread-lt, onto}
 use Rattle.moments.specs.Sets.{setOf, needsOf, Threaded, MakePre, Ends, is-made, is-full, MakePost}
@@ -49,21 +49,21 @@ pub record Writing (n limit : ℕ) (W X : View) (t v : ℕ) (S : Scene n W t v) 
     : Type 0 where
   pub steps : Steps n W X
   pub ready : Onward limit S one two j i s
-  pub rest : putAll (suc i) (restOf S one two j i s) now ≡ putAll 1 (restOf S one two (after one) 0 first) old
+  pub rest : putAll (suc i) (restOf S one two j i s) now ≡ putAll 1 (restOf S one two (lastMoment one) 0 first) old
 
 -- for every scene
 abbrev pub Stands : ℕ → ℕ → View → View → ℕ → ℕ → List ℕ → List ℕ → ℕ → List ℕ → List ℕ → ℕ → ℕ → ℕ → Type 0
 Stands n limit W X t v one two first old now s j i =
-    (S : Scene n W t v) → Onward limit S one two (after one) 0 first → Writing n limit W X t v S one two first old now s j i
+    (S : Scene n W t v) → Onward limit S one two (lastMoment one) 0 first → Writing n limit W X t v S one two first old now s j i
 
 module _ {n N limit : ℕ} {W : View} {t v : ℕ} {one two : List ℕ} {first : ℕ} {old : List ℕ}
     (p : WritePre n N limit W t v one two first old) where
-  pub write-starts : {j : ℕ} → after one ≡ j → Stands n limit W W t v one two first old old first j 0
+  pub write-starts : {j : ℕ} → lastMoment one ≡ j → Stands n limit W W t v one two first old old first j 0
   write-starts e S r =
       subst (λ (j : ℕ). Writing n limit W W t v S one two first old old first j 0) e
       (record { steps = steps-start (p .start); ready = r; rest = refl })
 
-  module _ {X : View} {now : List ℕ} {s i J : ℕ} (pos : 0 < J) (sum : i + J ≡ after one)
+  module _ {X : View} {now : List ℕ} {s i J : ℕ} (pos : 0 < J) (sum : i + J ≡ lastMoment one)
       (q₀ : Stands n limit W X t v one two first old now s J i) where
     abbrev j : ℕ
     j = J - 1
@@ -86,15 +86,16 @@ module _ {n N limit : ℕ} {W : View} {t v : ℕ} {one two : List ℕ} {first : 
     }
 
     module _ {b : ℕ} (eb : b ≡ suc i) {Y : View} {o : Made} (f : MakePost n limit X Y t v one two b o) where
-      again : (S : Scene n W t v) (r : Onward limit S one two (after one) 0 first)
+      again : (S : Scene n W t v) (r : Onward limit S one two (lastMoment one) 0 first)
           → Ends n limit X Y t v (scene-later (p .start) (q S r .steps) S) one two j (suc i) o
       again S r =
-          let c : after one - b ≡ j = omega (arith, eb, sum, eJ) in
+          let c : lastMoment one - b ≡ j = omega (arith, eb, sum, eJ) in
           subst (λ (b : ℕ). Ends n limit X Y t v (scene-later (p .start) (q S r .steps) S) one two j b o) eb
           (subst (λ (j : ℕ). Ends n limit X Y t v (scene-later (p .start) (q S r .steps) S) one two j b o) c
           (f (scene-later (p .start) (q S r .steps) S)))
 
-      fits-again : (S : Scene n W t v) (r : Onward limit S one two (after one) 0 first) → fit limit (needsOf S one two j (suc i)) ≡ true
+      fits-again : (S : Scene n W t v) (r : Onward limit S one two (lastMoment one) 0 first)
+          → fit limit (needsOf S one two j (suc i)) ≡ true
       fits-again S r =
           true-of (fit limit (needsOf S one two j (suc i)))
           (made-less n limit (S .fs) (S .R) (S .B) (momentAt one two) j i (subst T (sym (q S r .ready .0)) tt))
@@ -105,24 +106,24 @@ module _ {n N limit : ℕ} {W : View} {t v : ℕ} {one two : List ℕ} {first : 
           true≢false (sym (fits-again (p .scene) (p .ready)) ∙ never-full (again (p .scene) (p .ready)) e)
 
       module _ {x : ℕ} (ex : o ≡ made.At x) where
-        there : (S : Scene n W t v) (r : Onward limit S one two (after one) 0 first)
+        there : (S : Scene n W t v) (r : Onward limit S one two (lastMoment one) 0 first)
             → Threaded n limit X Y t v (scene-later (p .start) (q S r .steps) S) one two j (suc i) x
         there S r = set-made (again S r) ex
 
-        steps-after : (S : Scene n W t v) (r : Onward limit S one two (after one) 0 first) → Steps n W Y
+        steps-after : (S : Scene n W t v) (r : Onward limit S one two (lastMoment one) 0 first) → Steps n W Y
         steps-after S r = steps-then (q S r .steps) (there S r .steps)
 
         -- the state that is written
         abbrev next : Scene n W t v → ℕ
         next S = toward (2 ^ n) (S .R) (setOf S one two j (suc i)) s
 
-        here : (S : Scene n W t v) (r : Onward limit S one two (after one) 0 first) → s < 2 ^ n
+        here : (S : Scene n W t v) (r : Onward limit S one two (lastMoment one) 0 first) → s < 2 ^ n
         here S r =
             thread-lt (2 ^ n) (S .R) (setsOf n (S .B) (momentAt one two)) (sets-small n (S .B) (momentAt one two)) (suc j) i s
             (q S r .ready .1)
 
         -- a run goes on from it
-        ahead : (S : Scene n W t v) (r : Onward limit S one two (after one) 0 first)
+        ahead : (S : Scene n W t v) (r : Onward limit S one two (lastMoment one) 0 first)
             → Onto (2 ^ n) (S .R) (setOf S one two j (suc i)) s (next S)
         ahead S r =
             onto (2 ^ n) (S .R) (setsOf n (S .B) (momentAt one two)) (sets-small n (S .B) (momentAt one two)) j i s (q S r .ready .1)
@@ -143,7 +144,7 @@ module _ {n N limit : ℕ} {W : View} {t v : ℕ} {one two : List ℕ} {first : 
               ready = (fits-again S r, subst (λ (z : ℕ). T (mem (setOf S one two j (suc i)) z)) (sym e) (ahead S r .inside));
               rest =
                   subst (λ (z : ℕ). putAll (suc (suc i)) (restOf S one two j (suc i) z) (set now (suc i) z)
-                  ≡ putAll 1 (restOf S one two (after one) 0 first) old) (sym e) (q S r .rest);
+                  ≡ putAll 1 (restOf S one two (lastMoment one) 0 first) old) (sym e) (q S r .rest);
             } in
             subst (λ (m : List ℕ). Writing n limit W Y t v S one two first old m u K b) (sym (w .list))
             (subst (λ (j : ℕ). Writing n limit W Y t v S one two first old (set now b u) u j b) eK

@@ -10,8 +10,8 @@ use Rattle.book.specs.Leaves.{plain}
 use Rattle.paths.specs.Runs.{Outcome}
 use Rattle.layers.specs.Scene.{Scene, Start}
 use Rattle.layers.specs.Pass.{Steps}
-use Rattle.logs.specs.Runs.{momentAt, outcome}
-use Rattle.logs.specs.Call.{after, ends}
+use Rattle.logs.specs.Runs.{momentAt, logOutcome}
+use Rattle.logs.specs.Call.{lastMoment, logEnds}
 use Rattle.moments.specs.Sets.{Logs}
 use Rattle.moments.specs.declared.Logged.{Logged}
 use Rattle.moments.specs.declared.Logged.the-variants as answer
@@ -23,8 +23,8 @@ loggedReply (answer.Refused e) = plain (refusalNumber e)
 
 -- the answer and the list are the outcome's
 pub record Told (o : Outcome) (r : Logged) (old new : List ℕ) : Type 0 where
-  pub reply : loggedReply r ≡ ends o old .reply
-  pub list : new ≡ ends o old .list
+  pub reply : loggedReply r ≡ logEnds o old .reply
+  pub list : new ≡ logEnds o old .list
 
 pub record FindPre (n N limit : ℕ) (W : View) (t v : ℕ) (one two : List ℕ) : Type 0 where
   pub start : Start n N limit W t v
@@ -33,7 +33,7 @@ pub record FindPre (n N limit : ℕ) (W : View) (t v : ℕ) (one two : List ℕ)
 
 pub record Finds (n limit : ℕ) (W X : View) (t v : ℕ) (S : Scene n W t v) (one two old new : List ℕ) (r : Logged) : Type 0 where
   pub steps : Steps n W X
-  pub told : Told (outcome n limit (S .fs) (S .R) (S .B) (momentAt one two) (after one) (length old)) r old new
+  pub told : Told (logOutcome n limit (S .fs) (S .R) (S .B) (momentAt one two) (lastMoment one) (length old)) r old new
 
 abbrev pub FindPost : ℕ → ℕ → View → View → ℕ → ℕ → List ℕ → List ℕ → List ℕ → List ℕ → Logged → Type 0
 FindPost n limit W X t v one two old new r =

@@ -20,15 +20,15 @@ use Rattle.modal.specs.Chain.{Ran}
 use Rattle.layers.specs.Next.{uncounted}
 use Rattle.layers.specs.Scene.{Scene, Start}
 use Rattle.layers.specs.Pass.{Steps}
-use Rattle.logs.specs.Runs.{momentAt, existing, setsOf, thread, fitNeeds, madeNeeds}
-use Rattle.logs.specs.Call.{after}
+use Rattle.logs.specs.Runs.{momentAt, existing, setsOf, thread, fitNeeds, setNeeds}
+use Rattle.logs.specs.Call.{lastMoment}
 use Rattle.moments.specs.Fitting.{FittingPre}
 
 -- the logs have as many numbers as one another, two for each of 1 to 1,024 entries
 pub record Logs (one two : List ℕ) : Type 0 where
-  pub first : length one ≡ 2 * suc (after one)
-  pub second : length two ≡ 2 * suc (after one)
-  pub few : after one < 1_024
+  pub first : length one ≡ 2 * suc (lastMoment one)
+  pub second : length two ≡ 2 * suc (lastMoment one)
+  pub few : lastMoment one < 1_024
 
 -- what the making of the last set asks: V's arrow, and no other root
 pub record LastPre (n N limit : ℕ) (W : View) (v : ℕ) (one two : List ℕ) : Type 0 where
@@ -40,16 +40,16 @@ pub record LastPre (n N limit : ℕ) (W : View) (v : ℕ) (one two : List ℕ) :
 abbrev pub LastPost : ℕ → ℕ → ℕ → View → View → ℕ → List ℕ → List ℕ → Taken → Type 0
 LastPost n N limit W X v one two o =
     (fs : List Fn) (E : List Bool) → Held (2 * n) (rowsOf W) (live W []) fs → Denotes (2 * n) (rowsOf W) v (fnOf n E)
-    → Ran n N W X (live W []) (fit limit (fitNeeds n fs E (momentAt one two (after one))))
-    (fnOf n (existing (2 ^ n) E (momentAt one two (after one))))
-    (needingAll (uncounted N) (fitNeeds n fs E (momentAt one two (after one)))) o
+    → Ran n N W X (live W []) (fit limit (fitNeeds n fs E (momentAt one two (lastMoment one))))
+    (fnOf n (existing (2 ^ n) E (momentAt one two (lastMoment one))))
+    (needingAll (uncounted N) (fitNeeds n fs E (momentAt one two (lastMoment one)))) o
 
 -- set i, with j moments after it, and the needs of making it
 abbrev pub setOf : {n : ℕ} {W : View} {t v : ℕ} → Scene n W t v → List ℕ → List ℕ → ℕ → ℕ → List Bool
 setOf {n} S one two j i = thread (2 ^ n) (S .R) (setsOf n (S .B) (momentAt one two)) j i
 
 abbrev pub needsOf : {n : ℕ} {W : View} {t v : ℕ} → Scene n W t v → List ℕ → List ℕ → ℕ → ℕ → List ℕ
-needsOf {n} S one two j i = madeNeeds n (S .fs) (S .R) (S .B) (momentAt one two) j i
+needsOf {n} S one two j i = setNeeds n (S .fs) (S .R) (S .B) (momentAt one two) j i
 
 -- the words after some steps; x is the arrow of set i, which fits
 pub record Threaded (n limit : ℕ) (W X : View) (t v : ℕ) (S : Scene n W t v) (one two : List ℕ) (j i x : ℕ) : Type 0 where
@@ -62,7 +62,7 @@ pub record MakePre (n N limit : ℕ) (W : View) (t v : ℕ) (one two : List ℕ)
   pub start : Start n N limit W t v
   pub scene : Scene n W t v
   pub logs : Logs one two
-  pub inside : at ≤ after one
+  pub inside : at ≤ lastMoment one
 
 -- set i is made, or its needs do not fit
 pub data Ends (n limit : ℕ) (W X : View) (t v : ℕ) (S : Scene n W t v) (one two : List ℕ) (j i : ℕ) : Made → Type 0 where
@@ -71,4 +71,4 @@ pub data Ends (n limit : ℕ) (W X : View) (t v : ℕ) (S : Scene n W t v) (one 
 
 abbrev pub MakePost : ℕ → ℕ → View → View → ℕ → ℕ → List ℕ → List ℕ → ℕ → Made → Type 0
 MakePost n limit W X t v one two at o =
-    (S : Scene n W t v) → Ends n limit W X t v S one two (after one - at) at o
+    (S : Scene n W t v) → Ends n limit W X t v S one two (lastMoment one - at) at o

@@ -11,7 +11,7 @@ use lib.ListN.{length}
 use Rattle.mucalculus.proofs.Sets.{and-in, and-out, true-of, false-of}
 use Rattle.book.specs.Run.{fit}
 use Rattle.book.proofs.Verdicts.{fit-append}
-use Rattle.paths.specs.Runs.{passes, Outcome, full, none, short, found, decided}
+use Rattle.paths.specs.Runs.{passNeeds, Outcome, full, none, short, found, decided}
 use Rattle.paths.specs.Exact.{CauseOf}
 
 -- ---- needs
@@ -30,7 +30,7 @@ both-same false b h = refl
 
 -- so the first pass decides 8
 pub passes-fit : (N : ℕ) (made again : List ℕ) (some : Bool) → (T (fit N made) → T (fit N again))
-    → fit N (passes made again some) ≡ fit N made
+    → fit N (passNeeds made again some) ≡ fit N made
 passes-fit N made again true h = fit-append N made again ∙ both-same (fit N made) (fit N again) h
 passes-fit N made again false h = fit-append N made [] ∙ both-same (fit N made) true (λ t. tt)
 

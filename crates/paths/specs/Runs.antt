@@ -99,15 +99,15 @@ againNeeds n live R B zero = []
 againNeeds n live R B (suc d) = madeNeeds n live R B d ++ againNeeds n live R B d
 
 -- of all steps of a call: those of a first pass, and again those of what is made again where a run is to be written
-abbrev pub passes : List ℕ → List ℕ → Bool → List ℕ
-passes made again some = made ++ cond some again []
+abbrev pub passNeeds : List ℕ → List ℕ → Bool → List ℕ
+passNeeds made again some = made ++ cond some again []
 
 -- here the first pass goes up to the last layer
 abbrev pub pathNeeds : ℕ → List Fn → Pairs → List Bool → List Bool → List ℕ
 pathNeeds n live R A B =
     let k = 2 ^ n in
     let d = lastLayer k R A B in
-    passes (madeNeeds n live R B d) (againNeeds n live R B d) (meets k A (layer k R B d))
+    passNeeds (madeNeeds n live R B d) (againNeeds n live R B d) (meets k A (layer k R B d))
 
 -- ---- the outcome
 

@@ -13,7 +13,7 @@ use Rattle.book.specs.Leaves.{plain}
 use Rattle.book.proofs.Compute.{computing}
 use Rattle.contract.specs.Seen.{seen}
 use Rattle.logs.specs.Runs.{momentAt}
-use Rattle.logs.specs.Meaning.{Meant}
+use Rattle.logs.specs.Meaning.{LogMeant}
 use Rattle.log_calls.specs.Post.{LogPost}
 use Rattle.log_calls.proofs.OneLogged.{logged-plainly}
 use Rattle.log_calls.proofs.Rests.{log-listed, log-again}
@@ -67,7 +67,7 @@ pub unequal-is : {ws new lent left : List ℕ} {y : Reply} → LogPost 8 oneLog 
 unequal-is p = p .sizes (λ f. let e : _≡_ {A = ℕ} 6 2 = f .equal in absurd (omega arith))
 
 -- the same in plain words: the run that is written fits both logs and is the least, 10 says that there is none
-pub three-means : Meant (bookOf (seen (afterRun 2 280)) .n) (inside (bookOf (seen (afterRun 2 280)) .rel 0))
+pub three-means : LogMeant (bookOf (seen (afterRun 2 280)) .n) (inside (bookOf (seen (afterRun 2 280)) .rel 0))
     (bookOf (seen (afterRun 2 280)) .valid) (momentAt oneLog twoLog) 3 places (record { reply = plain 0; list = 1 ∷ 0 ∷ 1 ∷ 7 ∷ [] })
 three-means = logged-plainly 0 three (after-sound small)
 

@@ -6,7 +6,7 @@ use lib.ListN.{length}
 use Rattle.layout.specs.View.{View, view}
 use Rattle.counting.specs.Counts.{CountsOf}
 use Rattle.layers.specs.Scene.{Scene}
-use Rattle.logs.specs.Call.{after}
+use Rattle.logs.specs.Call.{lastMoment}
 use Rattle.moments.specs.Sets.{Threaded, MakePre}
 use Rattle.moments.proofs.Sets.{entry-at, last-asks, last-made, last-full, before-asks, turn-made, turn-full, set-ends}
 use Rattle.moments.proofs.before.Reads as before-reads
@@ -20,13 +20,13 @@ use Rattle.moments.proofs.make_set.Lts as lts
 
 abbrev Inv-loop : tie.InvT-loop
 Inv-loop words₀ counts₀ limits relation valid one two at f i₀ x₀ words counts i x =
-    (length words ≡ length words₀) × (length counts ≡ length counts₀) × (at ≤ i) × (i ≤ after one)
+    (length words ≡ length words₀) × (length counts ≡ length counts₀) × (at ≤ i) × (i ≤ lastMoment one)
     × CountsOf (view (limits .rows) words) counts
     × ((W : View) → MakePre (limits .bits) (limits .rows) (limits .limit) W relation valid one two at
     → ((S : Scene (limits .bits) W relation valid)
-    → Threaded (limits .bits) (limits .limit) W (view (limits .rows) words₀) relation valid S one two (after one - i₀) i₀ x₀)
+    → Threaded (limits .bits) (limits .limit) W (view (limits .rows) words₀) relation valid S one two (lastMoment one - i₀) i₀ x₀)
     → (S : Scene (limits .bits) W relation valid)
-    → Threaded (limits .bits) (limits .limit) W (view (limits .rows) words) relation valid S one two (after one - i) i x)
+    → Threaded (limits .bits) (limits .limit) W (view (limits .rows) words) relation valid S one two (lastMoment one - i) i x)
 
 abbrev μ-loop : tie.MeasureT-loop
 μ-loop words₀ counts₀ limits relation valid one two at f i₀ x₀ words counts i x = i

@@ -5,7 +5,7 @@ use native.Mathlib.Omega.{arith}
 use lib.ListN.{length, length-set}
 use Rattle.layout.specs.View.{view}
 use Rattle.counting.specs.Counts.{CountsOf}
-use Rattle.logs.specs.Call.{after}
+use Rattle.logs.specs.Call.{lastMoment}
 use Rattle.moments.proofs.Write.{Stands, write-starts, write-again, write-never, next-asks, write-turns, write-ends}
 use Rattle.moments.proofs.make_set.Reads as make-set-reads
 use Rattle.routes.proofs.write_next.Reads as write-next-reads
@@ -18,7 +18,7 @@ use Rattle.moments.proofs.write_on.Lts as lts
 abbrev Inv-loop : tie.InvT-loop
 Inv-loop words₀ counts₀ list₀ limits relation valid one two first last s₀ i₀ words counts list s i =
     (length words ≡ length words₀) × (length counts ≡ length counts₀) × (length list ≡ length list₀) × (i ≤ last)
-    × (last ≡ after one) × CountsOf (view (limits .rows) words) counts
+    × (last ≡ lastMoment one) × CountsOf (view (limits .rows) words) counts
     × Stands (limits .bits) (limits .limit) (view (limits .rows) words₀) (view (limits .rows) words) relation valid one two first list₀ list
     s (last - i) i
 
