@@ -106,6 +106,9 @@ extern "C" {
 /* How many states may be asked at once. */
 #define KUDZUCLAMP_MAX_STATES 1024
 
+/* The most entries of a log. */
+#define KUDZUCLAMP_MAX_ENTRIES 1024
+
 /*
  * An account. A set, force or react under it may need at most the lesser of N and `rows` rows, counted with all that registers and
  * relations keep, and take at most the lesser of R and `rounds` rounds. `tally` counts the rounds of sets and force. Any values may be
@@ -115,6 +118,12 @@ struct kudzuclamp_account {
     uint32_t rows;
     uint32_t rounds;
     uint32_t tally;
+};
+
+/* An entry of a log: which bits were logged at its moment, and what they were. */
+struct kudzuclamp_entry {
+    uint16_t mask;
+    uint16_t value;
 };
 
 /* What a function returns. */
@@ -149,7 +158,7 @@ static inline const char *kudzuclamp_text(uint32_t number)
     case KUDZUCLAMP_ANSWERED:
         return "answered";
     case KUDZUCLAMP_SIZES:
-        return "the number of bits, rows, states, prices or entries is out of range, two logs are unequal, or there are too few words or places";
+        return "a number of bits, rows, states, prices or entries is out of range, logs are unequal, or there are too few words or places";
     case KUDZUCLAMP_UNSOUND:
         return "the words are no sound table";
     case KUDZUCLAMP_RANGE:
@@ -418,15 +427,6 @@ uint32_t kudzuclamp_react(uint32_t *words, size_t words_len, const struct kudzuc
 KUDZUCLAMP_USE_RESULT
 uint32_t kudzuclamp_logged(uint32_t *words, size_t words_len, uint16_t *list, size_t list_len, uint32_t t, const uint16_t *one,
                            size_t one_len, const uint16_t *two, size_t two_len);
-
-/* The most entries of a log. */
-#define KUDZUCLAMP_MAX_ENTRIES 1024
-
-/* An entry of a log: which bits were logged at its moment, and what they were. */
-struct kudzuclamp_entry {
-    uint16_t mask;
-    uint16_t value;
-};
 
 /* kudzuclamp_logged over two arrays of k entries. */
 KUDZUCLAMP_USE_RESULT

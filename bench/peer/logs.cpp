@@ -1,7 +1,7 @@
 // logs N [WORD...]: runs that fit two logs (Slip 11) at N bits, of the cases whose name has one of the words, or of all. In each room one
 // run is drawn; one log has the even bits of its states, the other the odd ones, or neither has any but the last state's. What is written
-// must fit and be a run. Last a room made to be slow, of whose last state one bit is logged, and with no place in the list (refusal 11): as
-// many sets as there are moments, and none again. Thread times in ms, of one call each.
+// must fit and be a run. Last two rooms made to be slow, also with no place in the list (refusal 11): as many sets as there are moments,
+// and none again. Thread times in ms, of one call each.
 #include "list.h"
 #include "own.h"
 #include <cstdio>
@@ -114,23 +114,58 @@ static Room slow() {
     return {"three bits from others", f, [next](u32 s, u32 t) { return t == next(s); }, [next](u32 s, u32) { return next(s); }};
 }
 
+// Bits 12 to 15 choose one of the first twelve, and choose once more in another order. A choice that holds leads to states with these four
+// bits off, the other one with them on. AND of such a set and the relation goes through millions of pairs of arrows, each a few times, and
+// its result is small: a second or two for each diamond, though no set is large. At n = 16 alone.
+static u32 choice(u32 i, u32 order) { return order ? (5 * i + 3) % 16 : i; }
+
+static bool chosen(u32 s, u32 order) {
+    for (u32 i = 0; i < 12; i++)
+        if (s >> 12 == choice(i, order) && (s >> i & 1)) return true;
+    return false;
+}
+
+// The four bits from 12 on have this value.
+static Bytes four(Bytes (*bit)(u32), u32 value) {
+    Bytes f = value & 1 ? bit(12) : no(bit(12));
+    for (u32 p = 1; p < 4; p++) f = both(f, value >> p & 1 ? bit(12 + p) : no(bit(12 + p)));
+    return f;
+}
+
+static Room choices() {
+    Bytes f[2];
+    for (u32 order = 0; order < 2; order++) {
+        for (u32 i = 0; i < 12; i++) {
+            Bytes one = both(here(i), four(here, choice(i, order)));
+            f[order] = i ? either(f[order], one) : one;
+        }
+        f[order] = both(f[order], four(there, order ? 15 : 0));
+    }
+    return {"four bits choose one of twelve", either(f[0], f[1]),
+            [](u32 s, u32 t) { return (t >> 12 == 0 && chosen(s, 0)) || (t >> 12 == 15 && chosen(s, 1)); },
+            [](u32 s, u32) { return s; }};
+}
+
 static Room anything() {
     return {"everything", {1}, [](u32, u32) { return true; }, [](u32, u32 drawn) { return drawn & all; }};
 }
 
 // ---- the call
 
-// What is logged: all bits, those of the last state, or of it bit 0 alone.
-enum Known { ALL, LAST, ONE_BIT };
+// What is logged: all bits, those of the last state, or of it bit 0 alone; or of it that bits 12 to 15 are off, and at every second moment
+// before it that bit 11 is.
+enum Known { ALL, LAST, ONE_BIT, OFF };
 
 static void ask(const Room &room, u32 k, Known what, u32 places) {
-    static const char *const text[] = {"all bits logged", "the last state alone", "one bit of the last state"};
+    static const char *const text[] = {"all bits logged", "the last state alone", "one bit of the last state",
+                                       "bits that are off"};
     std::vector<uint16_t> one(2 * k), two(2 * k), list(places, 0xFFFF);
     u32 seed = 7, s = 5 & all;
     for (u32 i = 0; i < k; i++) {
         u32 known = what == ALL || i + 1 == k ? 0x5555 : 0, other = known << 1;
         if (what == ONE_BIT) known &= 1, other = 0;
-        one[2 * i] = known, one[2 * i + 1] = s & known;
+        if (what == OFF) known = i + 1 == k ? 0xF000 : i % 2 ? 0 : 0x0800, other = 0;
+        one[2 * i] = known, one[2 * i + 1] = what == OFF ? 0 : s & known;
         two[2 * i] = other, two[2 * i + 1] = s & other;
         seed = seed * 1664525u + 1013904223u;
         s = room.step(s, seed >> 8);
@@ -156,12 +191,28 @@ static u32 fill(const Room &room) {
     return number ? number : kudzuclamp_relation(words.data(), words.size(), 0, framed.data(), framed.size(), &peak);
 }
 
+// The calls of a room, by its name.
+static void ask_all(const Room &room) {
+    std::string name = room.name;
+    if (name == "three bits from others") {
+        for (u32 k : {16u, 24u, 32u}) ask(room, k, ONE_BIT, k);
+        for (u32 k : {128u, 1024u}) ask(room, k, ONE_BIT, 0);
+    } else if (name == "four bits choose one of twelve") {
+        for (u32 k : {2u, 3u}) ask(room, k, OFF, 0);
+        for (u32 k : {6u, 10u}) ask(room, k, OFF, k);
+    } else {
+        for (Known what : {ALL, LAST})
+            for (u32 k : {16u, 128u, 1024u}) ask(room, k, what, k);
+    }
+}
+
 int main(int count, char **word) {
     if (count < 2 || (n = atoi(word[1])) < 2 || n > 16) return fprintf(stderr, "logs N [WORD...]\n"), 1;
     all = (1u << n) - 1;
     printf("| %u bits | moments | refusal | call, ms |\n|---|--:|--:|--:|\n", n);
-    const Room last = slow();
-    for (const Room &room : {shifts(), counter(), rises(), anything(), mixes(), last}) {
+    std::vector<Room> rooms = {shifts(), counter(), rises(), anything(), mixes(), slow()};
+    if (n == 16) rooms.push_back(choices());
+    for (const Room &room : rooms) {
         bool named = count < 3;
         for (int i = 2; i < count; i++) named |= std::string(room.name).find(word[i]) != std::string::npos;
         if (!named) continue;
@@ -169,12 +220,6 @@ int main(int count, char **word) {
             printf("| %s: the relation is refused | | %u | |\n", room.name, number);
             continue;
         }
-        if (room.name == last.name) {
-            for (u32 k : {16u, 24u, 32u}) ask(room, k, ONE_BIT, k);
-            for (u32 k : {128u, 1024u}) ask(room, k, ONE_BIT, 0);
-            continue;
-        }
-        for (Known what : {ALL, LAST})
-            for (u32 k : {16u, 128u, 1024u}) ask(room, k, what, k);
+        ask_all(room);
     }
 }

@@ -38,7 +38,8 @@
 //! [`Table::pick`] one of them, and [`Table::to_dot`] draws its rows. [`Table::shortest`] tells by
 //! which states a relation leads from one set into another, [`Table::cheapest`] by which presses of
 //! several relations it costs least. [`Table::force`] tells from where the machine can force a goal
-//! whatever a guest presses, and a [`Strategy`] answers the presses.
+//! whatever a guest presses, and a [`Strategy`] answers the presses. [`Table::logged`] tells whether
+//! two logs of one evening can both be right, and by which states.
 //!
 //! [`Names`] has names for the bits: formulas are read from text and written as text with them. What
 //! is wrong with a formula is told with its place: see [`Fault`] and [`ParseError`].

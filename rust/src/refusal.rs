@@ -102,7 +102,7 @@ impl fmt::Display for Refusal {
     fn fmt(&self, f: &mut fmt::Formatter<'_>) -> fmt::Result {
         f.write_str(match self {
             Refusal::Sizes => {
-                "the number of bits, rows, states, prices or entries is out of range, two logs are unequal, or there are too few words or places"
+                "a number of bits, rows, states, prices or entries is out of range, logs are unequal, or there are too few words or places"
             }
             Refusal::Unsound => "the words are no sound table",
             Refusal::Range => "a register, relation or state number is out of range",

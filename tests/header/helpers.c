@@ -145,7 +145,8 @@ static void texts(void)
 static void logs(void)
 {
     static uint32_t words[KUDZUCLAMP_WORDS(50)];
-    static const struct kudzuclamp_entry one[KUDZUCLAMP_MAX_ENTRIES + 1] = {{1, 1}}, two[KUDZUCLAMP_MAX_ENTRIES + 1] = {{0, 0}, {0, 0}, {1, 1}};
+    static const struct kudzuclamp_entry one[KUDZUCLAMP_MAX_ENTRIES + 1] = {{1, 1}};
+    static const struct kudzuclamp_entry two[KUDZUCLAMP_MAX_ENTRIES + 1] = {{0, 0}, {0, 0}, {1, 1}};
     const size_t words_len = sizeof words / sizeof *words;
     static const uint8_t turn[] = {KUDZUCLAMP_TURNS(0)};
     struct kudzuclamp_account account = {UINT32_MAX, UINT32_MAX, 0};

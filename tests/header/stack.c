@@ -161,7 +161,8 @@ static size_t all_bits(uint8_t *framed, size_t framed_len, const uint8_t *patter
 }
 
 /* Whether a cheapest run from the state with no bit on to that with all takes less than so many bytes, and a game over the same relation,
-   for both sides, with all bits on as its goal, and a run of it that fits two logs. In that relation bits only turn on, and it has a row on every level. */
+   for both sides, with all bits on as its goal, and a run of it that fits two logs. In that relation bits only turn on, and it has a row on
+   every level. */
 static int searched(size_t most)
 {
     static const uint8_t rising[] = {KUDZUCLAMP_OR, KUDZUCLAMP_NOT, KUDZUCLAMP_NOW(0), KUDZUCLAMP_NEXT(0)};

@@ -1,15 +1,12 @@
 -- The call's contract from its checks and from its search. Assumes nothing.
 use mathlib.Core.Path.{_≡_, refl, sym, ap, _∙_, subst}
 use mathlib.Core.Logic.{_≢_}
-use mathlib.Core.Bool.{Bool, cond}
 use mathlib.Core.List.{List}
-use mathlib.Core.Option.{Option, none, some}
-use Prim.Native.Nat.{ℕ, suc, _+_, _-_, _%_, _≤_, _<_}
+use Prim.Native.Nat.{ℕ, suc, _+_, _-_, _≤_, _<_}
 use native.Mathlib.Omega.{arith}
-use lib.Dec.{T, eqb, leb, ltb, ltb→lt, lt→ltb, leb→le, le→leb, eqb→eq, eqb-refl}
+use lib.Dec.{T}
 use lib.ListN.{length}
-use Rattle.mucalculus.proofs.Sets.{true-of, false-of, and-in, and-out}
-use Rattle.mucalculus.specs.Form.{Pairs, inside}
+use Rattle.mucalculus.specs.Form.{inside}
 use Rattle.layout.specs.Refusals.{keepsAll}
 use Rattle.layout.specs.Places.{BITS, ROWS, VALID, FIRST-RELATION}
 use Rattle.layout.specs.View.{View, view, headerOf}
@@ -18,7 +15,7 @@ use Rattle.diagram.proofs.Keep.{keeps-refl}
 use Rattle.rows.specs.Used.{rowsOf}
 use Rattle.rows.specs.Sound.{Sound, tableOf}
 use Rattle.rows.proofs.Filled.{filled-arrow}
-use Rattle.book.specs.Book.{Book, relations, liveOf, collect}
+use Rattle.book.specs.Book.{relations, liveOf, collect}
 use Rattle.book.specs.Table.{Reply, rootsOf}
 use Rattle.book.specs.BookOf.{bookOf}
 use Rattle.book.specs.Leaves.{plain}
@@ -29,71 +26,13 @@ use Rattle.paths.specs.Runs.{Outcome, full, none as noRun, short, found}
 use Rattle.paths.specs.Call.{Ended, refuse}
 use Rattle.formula_steps.proofs.After.{relation-is, same-table, rows-kept, words-kept, same-book}
 use Rattle.logs.specs.Runs.{momentAt, logOutcome}
-use Rattle.logs.specs.Call.{logsFit, lastMoment, logEnds, loggedOver, logged}
+use Rattle.logs.specs.Call.{logsFit, lastMoment, logEnds, logged}
+use Rattle.logs.proofs.Call.{fits-out, says-one, says-three, says-seven, says-outcome}
 use Rattle.moments.specs.declared.Logged.{Logged}
 use Rattle.moments.specs.Sets.{Logs}
 use Rattle.moments.specs.Find.{loggedReply}
 use Rattle.log_calls.specs.Search.{Named, SearchPre, Searched, SearchPost}
-use Rattle.log_calls.specs.Post.{LogsFit, LogTold, LogPost}
-
--- ---- the checks, by the book
-
-pub fit-yes : {one two : ℕ} → LogsFit one two → T (logsFit one two)
-fit-yes {one} {two} f =
-    and-in (eqb one two) _ (subst (λ (k : ℕ). T (eqb one k)) (f .equal) (eqb-refl one))
-    (and-in (eqb (one % 2) 0) _ (subst (λ (k : ℕ). T (eqb k 0)) (sym (f .whole)) tt)
-    (and-in (leb 1 one) _ (le→leb 1 one (f .some)) (le→leb one 2_048 (f .few))))
-
-pub yes-fit : (one two : ℕ) → T (logsFit one two) → LogsFit one two
-yes-fit one two h =
-    let a = and-out (eqb one two) _ h in
-    let b = and-out (eqb (one % 2) 0) _ (a .1) in
-    let c = and-out (leb 1 one) _ (b .1) in
-    record {
-      equal = eqb→eq one two (a .0);
-      whole = eqb→eq (one % 2) 0 (b .0);
-      some = leb→le 1 one (c .0);
-      few = leb→le one 2_048 (c .1);
-    }
-
--- "A log length out of range or unequal gives 1"
-pub says-one : (bk : Book) (t : ℕ) (one two list : List ℕ) → (LogsFit (length one) (length two) → ⊥)
-    → logged bk t one two list ≡ refuse 1 list
-says-one bk t one two list n =
-    ap (λ (b : Bool). cond b (cond (ltb t relations) (loggedOver bk (bk .rel t) one two list) (refuse 3 list)) (refuse 1 list))
-    (false-of (logsFit (length one) (length two)) (λ h. n (yes-fit (length one) (length two) h)))
-
-module _ (bk : Book) (t : ℕ) (one two list : List ℕ) (f : LogsFit (length one) (length two)) where
-  by-range : {r : Bool} → ltb t relations ≡ r
-      → logged bk t one two list ≡ cond r (loggedOver bk (bk .rel t) one two list) (refuse 3 list)
-  by-range {r} e =
-      ap (λ (b : Bool). cond b (cond (ltb t relations) (loggedOver bk (bk .rel t) one two list) (refuse 3 list)) (refuse 1 list))
-      (true-of (logsFit (length one) (length two)) (fit-yes f))
-      ∙ ap (λ (b : Bool). cond b (loggedOver bk (bk .rel t) one two list) (refuse 3 list)) e
-
-  -- "register, relation or state number out of range"
-  pub says-three : (t < relations → ⊥) → logged bk t one two list ≡ refuse 3 list
-  says-three n = by-range (false-of (ltb t relations) (λ h. n (ltb→lt t relations h)))
-
-  module _ (r : t < relations) where
-    later : logged bk t one two list ≡ loggedOver bk (bk .rel t) one two list
-    later = by-range (true-of (ltb t relations) (lt→ltb t relations r))
-
-    -- "register or relation named is empty"
-    pub says-seven : bk .rel t ≡ none → logged bk t one two list ≡ refuse 7 list
-    says-seven e = later ∙ ap (λ (o : Option Pairs). loggedOver bk o one two list) e
-
-    -- and then the outcome of the steps
-    pub says-outcome : {R : Pairs} → bk .rel t ≡ some R
-        → logged bk t one two list
-        ≡ logEnds
-        (logOutcome (bk .n) (bk .N) (liveOf bk) (inside (bk .rel t)) (bk .valid) (momentAt one two) (lastMoment one) (length list)) list
-    says-outcome e = later ∙ go (bk .rel t) e
-      where
-        go : {R : Pairs} (o : Option Pairs) → o ≡ some R
-            → loggedOver bk o one two list
-            ≡ logEnds (logOutcome (bk .n) (bk .N) (liveOf bk) (inside o) (bk .valid) (momentAt one two) (lastMoment one) (length list)) list
-        go {R} o e = rw e refl
+use Rattle.log_calls.specs.Post.{LogTold, LogPost}
 
 -- ---- refusals by the checks
 
@@ -109,7 +48,7 @@ module _ (t : ℕ) (one two ws list : List ℕ) where
   }
 
   -- CHECK 1
-  pub log-sizes : (LogsFit (length one) (length two) → ⊥) → LogPost t one two ws ws list list (plain 1)
+  pub log-sizes : (T (logsFit (length one) (length two)) → ⊥) → LogPost t one two ws ws list list (plain 1)
   log-sizes n = record {
     sizes = λ _. ((refl, refl, refl, refl), refl, refl);
     unsound = λ f. absurd (n f);
@@ -118,7 +57,7 @@ module _ (t : ℕ) (one two ws list : List ℕ) where
     kept = kept-refused collect 0 ws;
   }
 
-  module _ (f : LogsFit (length one) (length two)) where
+  module _ (f : T (logsFit (length one) (length two))) where
     -- CHECK 2
     pub log-unsound : (SoundWords ws → ⊥) → LogPost t one two ws ws list list (plain 2)
     log-unsound n = record {
@@ -158,15 +97,12 @@ late short list h = h
 late (found l) list h = h
 
 -- the logs, entry by entry
-pub logs-of : (one two : List ℕ) → LogsFit (length one) (length two) → Logs one two
+pub logs-of : (one two : List ℕ) → T (logsFit (length one) (length two)) → Logs one two
 logs-of one two f =
-    let e = f .equal in
-    let w = f .whole in
-    let s = f .some in
-    let m = f .few in
+    let (e, w, s, m) = fits-out (length one) (length two) f in
     record { first = omega (arith, w, s); second = omega (arith, e, w, s); few = omega (arith, w, s, m) }
 
-module _ {t : ℕ} (one two old : List ℕ) (f : LogsFit (length one) (length two)) (s : SoundWords old) (r : t < relations)
+module _ {t : ℕ} (one two old : List ℕ) (f : T (logsFit (length one) (length two))) (s : SoundWords old) (r : t < relations)
     {rows bits v z : ℕ} (er : rows ≡ headerOf old ROWS) (eb : bits ≡ headerOf old BITS) (ev : v ≡ headerOf old VALID)
     (ez : z ≡ headerOf old (FIRST-RELATION + t)) (fz : z ≢ 0) where
   valid-some : v ≢ 0

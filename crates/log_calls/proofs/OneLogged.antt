@@ -17,10 +17,10 @@ use Rattle.paths.specs.Call.{Ended}
 use Rattle.path_calls.specs.OnePath.{OnePath}
 use Rattle.path_calls.proofs.OnePath.{fixed}
 use Rattle.logs.specs.Runs.{momentAt}
-use Rattle.logs.specs.Call.{lastMoment, logged}
+use Rattle.logs.specs.Call.{logsFit, lastMoment, logged}
 use Rattle.logs.specs.Meaning.{LogMeant}
 use Rattle.logs.proofs.Meaning.{logged-means}
-use Rattle.log_calls.specs.Post.{LogsFit, LogPost}
+use Rattle.log_calls.specs.Post.{LogPost}
 
 -- of what can be told apart, what is not different is the same
 not-two : {X : Type 0} → Discrete X → {c d : X} → ((c ≡ d → ⊥) → ⊥) → c ≡ d
@@ -33,7 +33,7 @@ not-two x {c} {d} h = go (x c d)
 module _ (t : ℕ) (one two old : List ℕ) {v w list k l : List ℕ} {y z : Reply} (p : LogPost t one two old v list k y)
     (q : LogPost t one two old w list l z) where
   abbrev Fit : Type 0
-  Fit = LogsFit (length one) (length two)
+  Fit = T (logsFit (length one) (length two))
 
   -- what can be told apart agrees, if it does where a check refuses, and on sound words: no check is decided
   agree : {X : Type 0} → Discrete X → {c d : X} → ((Fit → ⊥) → c ≡ d) → (Fit → (SoundWords old → ⊥) → c ≡ d)

@@ -1,7 +1,8 @@
 -- What the call promises over lent words, lent logs and a lent list, refusals too. Assumes nothing.
 use mathlib.Core.Path.{_≡_}
 use mathlib.Core.List.{List}
-use Prim.Native.Nat.{ℕ, _%_, _≤_}
+use Prim.Native.Nat.{ℕ}
+use lib.Dec.{T}
 use lib.ListN.{length}
 use Rattle.diagram.specs.Keep.{Keeps}
 use Rattle.book.specs.Book.{collect}
@@ -9,14 +10,7 @@ use Rattle.book.specs.Table.{Reply, Refusal, rootsOf}
 use Rattle.book.specs.BookOf.{bookOf}
 use Rattle.contract.specs.Seen.{seen, SoundWords}
 use Rattle.contract.specs.Kept.{Kept}
-use Rattle.logs.specs.Call.{logged}
-
--- not so: "A log length out of range or unequal gives 1"; a log lends two numbers for each of its 1 to 1,024 entries
-pub record LogsFit (one two : ℕ) : Type 0 where
-  pub equal : one ≡ two
-  pub whole : one % 2 ≡ 0
-  pub some : 1 ≤ one
-  pub few : one ≤ 2_048
+use Rattle.logs.specs.Call.{logsFit, logged}
 
 -- on a sound table: what is returned and what is written are those of the book that the words stand for, 1 too, and the words are sound
 -- again, with "registers, relations, rows they need" as they were, row by row
@@ -28,10 +22,10 @@ pub record LogTold (t : ℕ) (one two old new lent left : List ℕ) (y : Reply) 
 
 -- over relation t and two logs, with the words `old` and the list `lent` before the call, and `new` and `left` after it
 pub record LogPost (t : ℕ) (one two old new lent left : List ℕ) (y : Reply) : Type 0 where
-  -- check 1, before the words are looked at
-  pub sizes : (LogsFit (length one) (length two) → ⊥) → Refusal 1 y × (new ≡ old) × (left ≡ lent)
+  -- "A log length out of range or unequal gives 1", before the words are looked at
+  pub sizes : (T (logsFit (length one) (length two)) → ⊥) → Refusal 1 y × (new ≡ old) × (left ≡ lent)
   -- "table unsound"
-  pub unsound : LogsFit (length one) (length two) → (SoundWords old → ⊥) → Refusal 2 y × (new ≡ old) × (left ≡ lent)
+  pub unsound : T (logsFit (length one) (length two)) → (SoundWords old → ⊥) → Refusal 2 y × (new ≡ old) × (left ≡ lent)
   pub told : SoundWords old → LogTold t one two old new lent left y
   -- the words stand for the same book
   pub book : bookOf (seen new) ≡ bookOf (seen old)

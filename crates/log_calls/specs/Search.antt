@@ -17,7 +17,7 @@ use Rattle.logs.specs.Runs.{momentAt, logOutcome}
 use Rattle.logs.specs.Call.{lastMoment}
 use Rattle.moments.specs.declared.Logged.{Logged}
 use Rattle.moments.specs.Sets.{Logs}
-use Rattle.moments.specs.Find.{Told}
+use Rattle.moments.specs.Find.{OutcomeTold}
 
 -- relation rt and V hold these arrows
 pub record Named (W : View) (rt t v : ℕ) : Type 0 where
@@ -36,7 +36,7 @@ pub record Searched (n limit : ℕ) (W X : View) (rt : ℕ) (one two old new : L
   pub sound : Sound X
   pub frame : OpFrame W X
   pub kept : Keeps (rowsOf W) (rowsOf X) (filled W)
-  pub told : Told
+  pub told : OutcomeTold
       (logOutcome n limit (liveOf (bookIn W)) (inside (bookIn W .rel rt)) (bookIn W .valid) (momentAt one two) (lastMoment one) (length old))
       r old new
 

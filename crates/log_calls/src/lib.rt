@@ -10,9 +10,11 @@ use modal::Limits;
 use moments::Logged;
 use moments::find_logged;
 use soundness::sound;
+ghost use lib.Dec.{T};
 ghost use Rattle.rows.specs.Says.{Says};
 ghost use Rattle.moments.specs.Find.{loggedReply};
-ghost use Rattle.log_calls.specs.Post.{LogsFit, LogPost};
+ghost use Rattle.logs.specs.Call.{logsFit};
+ghost use Rattle.log_calls.specs.Post.{LogPost};
 ghost use Rattle.log_calls.specs.Asks.{SearchAsks, SearchGives};
 
 // How long a log may be, in numbers: two for each entry.
@@ -24,7 +26,7 @@ impl Log {
 
 // Whether both logs have the same number of entries, of two numbers each, from 1 to 1,024.
 fn logs_fit(one: usize, two: usize) -> bool
-    ensures { λ b. ⌜ Says (LogsFit one two) b ⌝ }
+    ensures { λ b. ⌜ Says (T (logsFit one two)) b ⌝ }
 {
     if one != two {
         return false;

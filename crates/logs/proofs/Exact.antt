@@ -11,10 +11,10 @@ use Rattle.diagram.specs.Level.{Fn}
 use Rattle.book.specs.Run.{fit}
 use Rattle.paths.specs.Runs.{Outcome}
 use Rattle.paths.proofs.Decided.{fit-first, fit-both, passes-fit, decided-cause, by-cause}
-use Rattle.logs.specs.Runs.{Moment, fitting, isThrough, LeastThrough, thread, run, inhabited, setsOf, beforeNeeds, setNeeds}
+use Rattle.logs.specs.Runs.{Moment, fitting, isThrough, LeastThrough, runStarts, run, inhabited, setsOf, beforeNeeds, setNeeds}
 use Rattle.logs.specs.Runs.{setsAgainNeeds, logNeeds, logOutcome}
 use Rattle.logs.specs.Exact.{LogCause}
-use Rattle.logs.proofs.Threads.{inter-out, run-inhabits, run-is, through-only}
+use Rattle.logs.proofs.Starts.{inter-out, run-inhabits, run-is, through-only}
 
 -- ---- needs
 
@@ -22,7 +22,7 @@ module _ (n N : ℕ) (live : List Fn) (R : Pairs) (E : List Bool) (M : ℕ → M
   -- a set that is made on the way to another fits where that one does
   pub made-less : (j i : ℕ) → T (fit N (setNeeds n live R E M (suc j) i)) → T (fit N (setNeeds n live R E M j (suc i)))
   made-less j i =
-      fit-first N (setNeeds n live R E M j (suc i)) (beforeNeeds n live R E (M i) (thread (2 ^ n) R (setsOf n E M) j (suc i)))
+      fit-first N (setNeeds n live R E M j (suc i)) (beforeNeeds n live R E (M i) (runStarts (2 ^ n) R (setsOf n E M) j (suc i)))
 
   -- sets that are made again have the needs that they had
   pub again-fits : (j i : ℕ) → T (fit N (setNeeds n live R E M j i)) → T (fit N (setsAgainNeeds n live R E M j i))
@@ -35,7 +35,7 @@ module _ (n N : ℕ) (live : List Fn) (R : Pairs) (E : List Bool) (M : ℕ → M
   pub first-pass : (j : ℕ) → fit N (logNeeds n live R E M j) ≡ fit N (setNeeds n live R E M j 0)
   first-pass j =
       passes-fit N (setNeeds n live R E M j 0) (setsAgainNeeds n live R E M j 0)
-      (inhabited (2 ^ n) (thread (2 ^ n) R (setsOf n E M) j 0)) (again-fits j 0)
+      (inhabited (2 ^ n) (runStarts (2 ^ n) R (setsOf n E M) j 0)) (again-fits j 0)
 
 -- ---- the causes
 
@@ -51,7 +51,7 @@ module _ (n N : ℕ) (live : List Fn) (R : Pairs) (E : List Bool) (M : ℕ → M
   pub outcome-cause : LogCause n N live R E M j room (logOutcome n N live R E M j room)
   outcome-cause =
       decided-cause (λ l. T (isThrough R A j l)) (λ l. LeastThrough R A j l) (fit N (logNeeds n live R E M j))
-      (inhabited (2 ^ n) (thread (2 ^ n) R A j 0)) (run (2 ^ n) R A j) room (run-is (2 ^ n) R A (sets-small n E M) j)
+      (inhabited (2 ^ n) (runStarts (2 ^ n) R A j 0)) (run (2 ^ n) R A j) room (run-is (2 ^ n) R A (sets-small n E M) j)
       (run-inhabits (2 ^ n) R A (sets-small n E M) j)
 
   -- so an outcome comes exactly by its cause: where no step is full, 10 exactly where no run exists

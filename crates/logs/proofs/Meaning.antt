@@ -1,6 +1,7 @@
 -- The call by the book in plain words: what an answered call writes, and what 10 and 11 say. Assumes nothing.
-use mathlib.Core.Path.{_≡_, refl, sym, ap, subst}
+use mathlib.Core.Path.{_≡_, refl, sym, ap, _∙_, subst}
 use mathlib.Core.Bool.{Bool, true, false, cond}
+use mathlib.Core.Logic.{_↔_}
 use mathlib.Core.List.{List, [], _∷_}
 use mathlib.Core.Option.{Option, none, some}
 use Prim.Native.Nat.{ℕ, zero, suc, _+_, _^_, _≤_, _<_}
@@ -14,14 +15,16 @@ use Rattle.mucalculus.specs.Form.{Pairs, inside}
 use Rattle.mucalculus.specs.Means.{pair}
 use Rattle.diagram.specs.Level.{Fn}
 use Rattle.book.specs.Book.{Book, relations, liveOf}
+use Rattle.book.specs.Run.{fit}
 use Rattle.paths.specs.Runs.{Outcome, full, none as noRun, short, found}
-use Rattle.paths.specs.Call.{refuse}
-use Rattle.logs.specs.Runs.{Moment, momentAt, fitsBoth, fitting, setsOf, through, isThrough, logOutcome}
+use Rattle.paths.specs.Call.{Ended, refuse}
+use Rattle.logs.specs.Runs.{Moment, momentAt, fitsBoth, fitting, setsOf, through, isThrough, logNeeds, logOutcome}
 use Rattle.logs.specs.Call.{logsFit, lastMoment, logEnds, loggedOver, logged}
 use Rattle.logs.specs.Exact.{LogCause}
 use Rattle.logs.specs.Meaning.{LoggedRun, LogMeant}
-use Rattle.logs.proofs.Threads.{inter-in, inter-out}
-use Rattle.logs.proofs.Exact.{outcome-cause}
+use Rattle.logs.proofs.Starts.{inter-in, inter-out}
+use Rattle.logs.proofs.Exact.{outcome-cause, log-outcome-exact}
+use Rattle.logs.proofs.Call.{says-outcome}
 
 -- ---- a run by its places
 
@@ -164,3 +167,19 @@ logged-means bk t one two lent = go (logsFit (length one) (length two)) (ltb t r
         by-outcome (bk .n) (bk .N) (liveOf bk) R (bk .valid) (momentAt one two) (lastMoment one) lent
         (logOutcome (bk .n) (bk .N) (liveOf bk) R (bk .valid) (momentAt one two) (lastMoment one) (length lent))
         (outcome-cause (bk .n) (bk .N) (liveOf bk) R (bk .valid) (momentAt one two) (lastMoment one) (length lent))
+
+-- "provided none of their steps is full, 10 is given exactly when no run exists": where the checks find no cause
+pub ten-exact : (bk : Book) (t : ℕ) (one two lent : List ℕ) {R : Pairs} → T (logsFit (length one) (length two)) → t < relations
+    → bk .rel t ≡ some R
+    → fit (bk .N) (logNeeds (bk .n) (liveOf bk) (inside (bk .rel t)) (bk .valid) (momentAt one two) (lastMoment one)) ≡ true
+    → (logged bk t one two lent .reply .number ≡ 10)
+    ↔ ((l : List ℕ) → LoggedRun (bk .n) (inside (bk .rel t)) (bk .valid) (momentAt one two) (suc (lastMoment one)) l → ⊥)
+ten-exact bk t one two lent f r e g = (logged-means bk t one two lent .no-run, back)
+  where
+    back : ((l : List ℕ) → LoggedRun (bk .n) (inside (bk .rel t)) (bk .valid) (momentAt one two) (suc (lastMoment one)) l → ⊥)
+        → logged bk t one two lent .reply .number ≡ 10
+    back h =
+        let none-is = log-outcome-exact (bk .n) (bk .N) (liveOf bk) (inside (bk .rel t)) (bk .valid) (momentAt one two) (lastMoment one)
+        (length lent) noRun .1
+        (g, λ l q. h l (run-fits (bk .n) (inside (bk .rel t)) (bk .valid) (momentAt one two) (lastMoment one) l q)) in
+        ap (λ (x : Ended). x .reply .number) (says-outcome bk t one two lent f r e ∙ ap (λ (o : Outcome). logEnds o lent) none-is)

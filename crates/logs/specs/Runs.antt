@@ -5,7 +5,7 @@ use mathlib.Core.Bool.{Bool, false, _&&_}
 use mathlib.Core.List.{List, [], _∷_, _++_}
 use Prim.Native.Nat.{ℕ, zero, suc, _*_, _^_}
 use lib.Bits.{bitAnd}
-use lib.Dec.{T, eqb}
+use lib.Dec.{T, eqb, ltb}
 use lib.ListN.{length, getD}
 use Rattle.mucalculus.specs.Sets.{mem, table}
 use Rattle.mucalculus.specs.Form.{Pairs}
@@ -15,7 +15,7 @@ use Rattle.diagram.specs.Need.{stepNeed}
 use Rattle.book.specs.Bridge.{fnOf}
 use Rattle.book.specs.Ticks.{diaNeeds, twoNeed}
 use Rattle.book.specs.Run.{fit}
-use Rattle.paths.specs.Runs.{Least, common, meets, toward, passNeeds, Outcome, decided}
+use Rattle.paths.specs.Runs.{Least, firstOf, toward, passNeeds, Outcome, decided}
 
 -- ---- what the logs say
 
@@ -75,20 +75,24 @@ pub record LeastThrough (R : Pairs) (A : ℕ → List Bool) (j : ℕ) (l : List 
 
 -- of k states those of set i from which a run goes on through the j sets after it: "the states fitting both last entries, then for each
 -- earlier pair diamond of the later set AND the states fitting it"
-abbrev pub thread : ℕ → Pairs → (ℕ → List Bool) → ℕ → ℕ → List Bool
-thread k R A zero i = A i
-thread k R A (suc j) i = inter k (sometimes k R (thread k R A j (suc i))) (A i)
+abbrev pub runStarts : ℕ → Pairs → (ℕ → List Bool) → ℕ → ℕ → List Bool
+runStarts k R A zero i = A i
+runStarts k R A (suc j) i = inter k (sometimes k R (runStarts k R A j (suc i))) (A i)
 
 -- ---- the run that is written
 
 -- the least next state of s in the set after set i, then that one's in the next, through j sets
 abbrev pub leastRest : ℕ → Pairs → (ℕ → List Bool) → ℕ → ℕ → ℕ → List ℕ
 leastRest k R A zero i s = []
-leastRest k R A (suc j) i s = let t = toward k R (thread k R A j (suc i)) s in t ∷ leastRest k R A j (suc i) t
+leastRest k R A (suc j) i s = let t = toward k R (runStarts k R A j (suc i)) s in t ∷ leastRest k R A j (suc i) t
+
+-- the least state of a set, and k where it has none
+abbrev pub leastOf : ℕ → List Bool → ℕ
+leastOf k X = firstOf k (λ s. mem X s)
 
 -- from the least state of the first set
 abbrev pub run : ℕ → Pairs → (ℕ → List Bool) → ℕ → List ℕ
-run k R A j = let X = thread k R A j 0 in let s = common k X X in s ∷ leastRest k R A j 0 s
+run k R A j = let X = runStarts k R A j 0 in let s = leastOf k X in s ∷ leastRest k R A j 0 s
 
 -- ---- steps, over n state bits
 
@@ -104,7 +108,7 @@ beforeNeeds n live R E m L =
     let D = sometimes (2 ^ n) R L in
     diaNeeds n l R L ++ (fitNeeds n (fnOf n D ∷ l) E m ++ (twoNeed n l (inter (2 ^ n)) D (existing (2 ^ n) E m) ∷ []))
 
--- what happened at each moment, within V
+-- the states that exist and fit both entries of moment i
 abbrev pub setsOf : ℕ → List Bool → (ℕ → Moment) → ℕ → List Bool
 setsOf n E M i = existing (2 ^ n) E (M i)
 
@@ -112,7 +116,7 @@ setsOf n E M i = existing (2 ^ n) E (M i)
 abbrev pub setNeeds : ℕ → List Fn → Pairs → List Bool → (ℕ → Moment) → ℕ → ℕ → List ℕ
 setNeeds n live R E M zero i = fitNeeds n live E (M i)
 setNeeds n live R E M (suc j) i =
-    setNeeds n live R E M j (suc i) ++ beforeNeeds n live R E (M i) (thread (2 ^ n) R (setsOf n E M) j (suc i))
+    setNeeds n live R E M j (suc i) ++ beforeNeeds n live R E (M i) (runStarts (2 ^ n) R (setsOf n E M) j (suc i))
 
 -- "sets are made again": of those after set i the first, then the second, and so on, each from the last on
 abbrev pub setsAgainNeeds : ℕ → List Fn → Pairs → List Bool → (ℕ → Moment) → ℕ → ℕ → List ℕ
@@ -121,12 +125,12 @@ setsAgainNeeds n live R E M (suc j) i = setNeeds n live R E M j (suc i) ++ setsA
 
 -- a set has a state
 abbrev pub inhabited : ℕ → List Bool → Bool
-inhabited k X = meets k X X
+inhabited k X = ltb (leastOf k X) k
 
 -- of all steps of the call: "All k sets are made before 10 is decided", and again where a run is to be written
 abbrev pub logNeeds : ℕ → List Fn → Pairs → List Bool → (ℕ → Moment) → ℕ → List ℕ
 logNeeds n live R E M j =
-    passNeeds (setNeeds n live R E M j 0) (setsAgainNeeds n live R E M j 0) (inhabited (2 ^ n) (thread (2 ^ n) R (setsOf n E M) j 0))
+    passNeeds (setNeeds n live R E M j 0) (setsAgainNeeds n live R E M j 0) (inhabited (2 ^ n) (runStarts (2 ^ n) R (setsOf n E M) j 0))
 
 -- ---- the outcome
 
@@ -135,4 +139,4 @@ abbrev pub logOutcome : ℕ → ℕ → List Fn → Pairs → List Bool → (ℕ
 logOutcome n N live R E M j room =
     let k = 2 ^ n in
     let A = setsOf n E M in
-    decided (fit N (logNeeds n live R E M j)) (inhabited k (thread k R A j 0)) (run k R A j) room
+    decided (fit N (logNeeds n live R E M j)) (inhabited k (runStarts k R A j 0)) (run k R A j) room

@@ -45,7 +45,7 @@ use Rattle.modal.specs.Modal.{ModalPre, DiamondPost}
 use Rattle.layers.specs.Next.{NextPre, uncounted}
 use Rattle.layers.proofs.Next.{alike-end, and-true}
 use Rattle.logs.specs.Runs.{Moment, fitting, existing, fitNeeds, beforeNeeds}
-use Rattle.moments.specs.Moment.{Asks, entryF}
+use Rattle.moments.specs.Moment.{Joins, entryF}
 use Rattle.moments.specs.Fitting.{FittingPre, FittingPost}
 use Rattle.moments.specs.Before.{BeforePost}
 use Rattle.moments.proofs.Cubes.{fitting-cube}
@@ -82,7 +82,7 @@ ran-fewer w r =
 pub ran-fitting : (n N limit : ℕ) (W X : View) (lent : List ℕ) (v mask value : ℕ) (q : Count) (o : Taken)
     → FittingPost n N limit W X lent v mask value q o → (fs : List Fn) (E : List Bool) (m : Moment) → Held (2 * n) (rowsOf W) (live W
     lent) fs
-    → Denotes (2 * n) (rowsOf W) v (fnOf n E) → Asks m mask value
+    → Denotes (2 * n) (rowsOf W) v (fnOf n E) → Joins m mask value
     → Ran n N W X (live W lent) (fit limit (fitNeeds n fs E m)) (fnOf n (existing (2 ^ n) E m)) (needingAll q (fitNeeds n fs E m)) o
 ran-fitting n N limit W X lent v mask value q o p fs E m h dv a =
     let Q : Fn → Fn → Fn
@@ -191,7 +191,7 @@ module _ {n N limit : ℕ} {W : View} {t v x : ℕ} (p : NextPre n N limit W t v
         -- the fitting states, of sets
         ran-fit : (fs : List Fn) (R : Pairs) (E L : List Bool) (m : Moment) → Held (2 * n) (rowsOf W) (filled W) fs
             → Denotes (2 * n) (rowsOf W) t (fnOfPairs n R) → Denotes (2 * n) (rowsOf W) v (fnOf n E)
-            → Denotes (2 * n) (rowsOf W) x (fnOf n L) → Asks m mask value
+            → Denotes (2 * n) (rowsOf W) x (fnOf n L) → Joins m mask value
             → Ran n N X Y (live W both) (fit limit (fitNeeds n (fnOf n (sometimes (2 ^ n) R L) ∷ fnOf n L ∷ fs) E m))
             (fnOf n (existing (2 ^ n) E m)) (needingAll q (fitNeeds n (fnOf n (sometimes (2 ^ n) R L) ∷ fnOf n L ∷ fs) E m)) u
         ran-fit fs R E L m h dt dv dx a =

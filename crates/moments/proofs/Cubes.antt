@@ -17,7 +17,7 @@ use Rattle.book.proofs.Bridge.{fnOf-table}
 use Rattle.cubes.specs.Cube.{literal, cubeFrom}
 use Rattle.cubes.proofs.CubeLaws.{cube-shift}
 use Rattle.logs.specs.Runs.{Moment, fits, fitsBoth, fitting}
-use Rattle.moments.specs.Moment.{Asks, entryF}
+use Rattle.moments.specs.Moment.{Joins, entryF}
 
 -- ---- digits
 
@@ -193,7 +193,7 @@ fits-cube (suc n) m v u =
     back false c l = refl
 
 -- the states that fit both entries, as a function of levels
-pub fitting-cube : (n : ℕ) (m : Moment) {mask value : ℕ} → Asks m mask value → fnOf n (fitting (2 ^ n) m) ≡ entryF (2 * n) mask value
+pub fitting-cube : (n : ℕ) (m : Moment) {mask value : ℕ} → Joins m mask value → fnOf n (fitting (2 ^ n) m) ≡ entryF (2 * n) mask value
 fitting-cube n m {mask} {value} a =
     fnOf-table n (fitsBoth m) ∙ fun-ext (λ u. sym (a .same (nowOf n u)) ∙ fits-cube n mask value u ∙ same n twice u)
   where

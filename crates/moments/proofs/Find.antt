@@ -15,10 +15,9 @@ use Rattle.table.specs.declared.Made.the-variants as made
 use Rattle.book.specs.Run.{fit}
 use Rattle.modal.specs.Chain.{Base}
 use Rattle.modal.proofs.Chain.{base-next, base-bits}
-use Rattle.paths.specs.Runs.{Outcome, full, none, short, found, firstOf, common, written}
-use Rattle.paths.proofs.First.{first-same}
+use Rattle.paths.specs.Runs.{Outcome, full, none, short, found, firstOf, written}
+use Rattle.paths.proofs.First.{first-same, first-found}
 use Rattle.paths.proofs.Decided.{decided-full, decided-none, decided-short, decided-found}
-use Rattle.paths.proofs.Layers.{meets-out}
 use Rattle.seek.specs.Walk.{HoldsPre}
 use Rattle.seek.specs.Search.{inBoth}
 use Rattle.layers.specs.Scene.{Scene}
@@ -26,13 +25,13 @@ use Rattle.layers.specs.Pass.{Steps}
 use Rattle.layers.proofs.Pass.{holds-pre, both-mem}
 use Rattle.routes.proofs.Write.{put-written, start-later, scene-later, state-small}
 use Rattle.routes.proofs.Find.{steps-then}
-use Rattle.logs.specs.Runs.{momentAt, setsOf, run, inhabited, logNeeds, logOutcome}
+use Rattle.logs.specs.Runs.{momentAt, setsOf, leastOf, run, inhabited, logNeeds, logOutcome}
 use Rattle.logs.specs.Call.{lastMoment}
 use Rattle.logs.proofs.Exact.{first-pass, sets-small}
-use Rattle.logs.proofs.Threads.{run-size}
-use Rattle.moments.specs.Sets.{setOf, needsOf, Threaded, MakePre, Ends, is-full, MakePost}
+use Rattle.logs.proofs.Starts.{run-size}
+use Rattle.moments.specs.Sets.{setOf, needsOf, HasSet, MakePre, Ends, is-full, MakePost}
 use Rattle.moments.specs.Write.{Onward, restOf, WritePre, WritePost}
-use Rattle.moments.specs.Find.{Told, FindPre, FindPost}
+use Rattle.moments.specs.Find.{OutcomeTold, FindPre, FindPost}
 use Rattle.moments.specs.declared.Logged.{Logged}
 use Rattle.moments.specs.declared.Logged.the-variants as answer
 use Rattle.moments.proofs.Write.{set-made, never-full}
@@ -72,16 +71,20 @@ module _ {n : ℕ} {W : View} {t v : ℕ} (limit : ℕ) (S : Scene n W t v) (one
   outcome-found e m l =
       decided-found fits (inhabited (2 ^ n) X) whole room (pass ∙ e) m (subst (λ (k : ℕ). k ≤ room) (sym whole-size) l)
 
-told-by : {o o′ : Outcome} {r : Logged} {old new : List ℕ} → o ≡ o′ → Told o′ r old new → Told o r old new
-told-by {r = r} {old = old} {new = new} e h = subst (λ (x : Outcome). Told x r old new) (sym e) h
+told-by : {o o′ : Outcome} {r : Logged} {old new : List ℕ} → o ≡ o′ → OutcomeTold o′ r old new → OutcomeTold o r old new
+told-by {r = r} {old = old} {new = new} e h = subst (λ (x : Outcome). OutcomeTold x r old new) (sym e) h
 
 -- ---- the search
+
+and-self : (b : Bool) → (b && b) ≡ b
+and-self true = refl
+and-self false = refl
 
 module _ {n N limit : ℕ} {W : View} {t v : ℕ} {one two : List ℕ} (p : FindPre n N limit W t v one two) where
   pub find-asks : MakePre n N limit W t v one two 0
   find-asks = record { start = p .start; scene = p .scene; logs = p .logs; inside = omega arith }
 
-  -- how many moments come after the first
+  -- the last moment
   abbrev j : ℕ
   j = lastMoment one
 
@@ -101,10 +104,10 @@ module _ {n N limit : ℕ} {W : View} {t v : ℕ} {one two : List ℕ} (p : Find
         full-steps (is-full s g) = s
 
     module _ {x : ℕ} (ex : o ≡ made.At x) where
-      set-at : (S : Scene n W t v) → Threaded n limit W X t v S one two j 0 x
+      set-at : (S : Scene n W t v) → HasSet n limit W X t v S one two j 0 x
       set-at S = set-made (ended S) ex
 
-      own : Threaded n limit W X t v (p .scene) one two j 0 x
+      own : HasSet n limit W X t v (p .scene) one two j 0 x
       own = set-at (p .scene)
 
       base-after : Base n N limit X
@@ -115,11 +118,12 @@ module _ {n N limit : ℕ} {W : View} {t v : ℕ} {one two : List ℕ} (p : Find
 
       module _ {s : ℕ} (es : s ≡ firstOf (2 ^ n) (inBoth X x x)) where
         -- the least state of the first set
-        first-is : (S : Scene n W t v) → s ≡ common (2 ^ n) (setOf S one two j 0) (setOf S one two j 0)
+        first-is : (S : Scene n W t v) → s ≡ leastOf (2 ^ n) (setOf S one two j 0)
         first-is S =
             let A = setOf S one two j 0 in
             es ∙ first-same (2 ^ n) (inBoth X x x) (λ s. mem A s && mem A s)
             (both-mem n W X A A (base-after .ready .levels-is) (set-at S .set-is) (set-at S .set-is))
+            ∙ first-same (2 ^ n) (λ s. mem A s && mem A s) (λ s. mem A s) (λ s h. and-self (mem A s))
 
         pub find-none : {old : List ℕ} → 2 ^ n ≤ s → FindPost n limit W X t v one two old old (answer.Refused refusal.NoRun)
         find-none {old} h S =
@@ -128,7 +132,7 @@ module _ {n N limit : ℕ} {W : View} {t v : ℕ} {one two : List ℕ} (p : Find
             record {
               steps = set-at S .steps;
               told = told-by (outcome-none limit S one two j (length old) (set-at S .fits)
-                  (false-of (inhabited (2 ^ n) A) (λ g. let z = ltb→lt (common (2 ^ n) A A) (2 ^ n) g in absurd (omega (arith, z, e, h)))))
+                  (false-of (inhabited (2 ^ n) A) (λ g. let z = ltb→lt (leastOf (2 ^ n) A) (2 ^ n) g in absurd (omega (arith, z, e, h)))))
                   (record { reply = refl; list = refl });
             }
 
@@ -136,7 +140,7 @@ module _ {n N limit : ℕ} {W : View} {t v : ℕ} {one two : List ℕ} (p : Find
           has : (S : Scene n W t v) → T (inhabited (2 ^ n) (setOf S one two j 0))
           has S =
               let A = setOf S one two j 0 in
-              lt→ltb (common (2 ^ n) A A) (2 ^ n) (subst (λ (s : ℕ). s < 2 ^ n) (first-is S) h)
+              lt→ltb (leastOf (2 ^ n) A) (2 ^ n) (subst (λ (s : ℕ). s < 2 ^ n) (first-is S) h)
 
           pub find-short : {old : List ℕ} → length old < length one / 2 → FindPost n limit W X t v one two old old (answer.Refused
               refusal.Short)
@@ -153,7 +157,7 @@ module _ {n N limit : ℕ} {W : View} {t v : ℕ} {one two : List ℕ} (p : Find
           ready-at : (S : Scene n W t v) → Onward limit S one two j 0 s
           ready-at S =
               let A = setOf S one two j 0 in
-              (set-at S .fits, subst (λ (s : ℕ). T (mem A s)) (sym (first-is S)) (meets-out (2 ^ n) A A (has S) .1))
+              (set-at S .fits, subst (λ (s : ℕ). T (mem A s)) (sym (first-is S)) (first-found (2 ^ n) (λ s. mem A s) (ltb→lt (leastOf (2 ^ n) A) (2 ^ n) (has S))))
 
           -- the scene after the sets are made
           pub write-asks : {list : List ℕ} → length one / 2 ≤ length list → WritePre n N limit X t v one two s list

@@ -37,10 +37,10 @@ use Rattle.layers.proofs.Scene.{filled-same, matches-at, matches-full}
 use Rattle.logs.specs.Runs.{momentAt, existing, fitNeeds, beforeNeeds}
 use Rattle.logs.specs.Call.{lastMoment}
 use Rattle.logs.proofs.Exact.{made-less}
-use Rattle.moments.specs.Moment.{Asks, Has}
+use Rattle.moments.specs.Moment.{Joins, Has}
 use Rattle.moments.specs.Fitting.{FittingPost}
 use Rattle.moments.specs.Before.{BeforePost}
-use Rattle.moments.specs.Sets.{Logs, LastPre, LastPost, setOf, needsOf, Threaded, MakePre, is-made, is-full, MakePost}
+use Rattle.moments.specs.Sets.{Logs, LastPre, LastPost, setOf, needsOf, HasSet, MakePre, is-made, is-full, MakePost}
 use Rattle.moments.proofs.BeforeLaws.{ran-fitting}
 
 -- what a chain's answer says
@@ -95,7 +95,7 @@ entry-at g h = let l = g .first in let m = g .second in record { first = omega (
 
 -- the states that fit are the last set
 pub last-ends : {n N : ℕ} (limit : ℕ) {W X : View} {v : ℕ} (one two : List ℕ) {mask value : ℕ} {o : Taken}
-    → Asks (momentAt one two (lastMoment one)) mask value → FittingPost n N limit W X [] v mask value (uncounted N) o
+    → Joins (momentAt one two (lastMoment one)) mask value → FittingPost n N limit W X [] v mask value (uncounted N) o
     → LastPost n N limit W X v one two o
 last-ends {n} {N} limit {W} {X} {v} one two {mask} {value} {o} m f fs E h d =
     ran-fitting n N limit W X [] v mask value (uncounted N) o f fs E (momentAt one two (lastMoment one)) h d m
@@ -128,10 +128,10 @@ module _ {n N limit : ℕ} {W : View} {t v : ℕ} {one two : List ℕ} {p : ℕ}
       kept = subst (λ (xs : List ℕ). Keeps (rowsOf W) (rowsOf X) xs) (append-nil (filled W)) (ran-last S .evals .kept);
     }
 
-    pub last-made : {J x : ℕ} {q : Count} → 0 ≡ J → o ≡ taken.At x q → (S : Scene n W t v) → Threaded n limit W X t v S one two J i x
+    pub last-made : {J x : ℕ} {q : Count} → 0 ≡ J → o ≡ taken.At x q → (S : Scene n W t v) → HasSet n limit W X t v S one two J i x
     last-made {x = x} eJ e S =
         let w = ran-made (ran-last S) e in
-        subst (λ (j : ℕ). Threaded n limit W X t v S one two j i x) eJ (record { steps = last-steps S; set-is = w .1; fits = w .0 })
+        subst (λ (j : ℕ). HasSet n limit W X t v S one two j i x) eJ (record { steps = last-steps S; set-is = w .1; fits = w .0 })
 
     pub last-full : o ≡ taken.Full → MakePost n limit W X t v one two p made.Full
     last-full e S =
@@ -142,8 +142,8 @@ module _ {n N limit : ℕ} {W : View} {t v : ℕ} {one two : List ℕ} {p : ℕ}
 -- ---- the moments before
 
 module _ {n N limit : ℕ} {W : View} {t v : ℕ} {one two : List ℕ} {p : ℕ} (a : MakePre n N limit W t v one two p)
-    {X : View} {j i x : ℕ} (h : (S : Scene n W t v) → Threaded n limit W X t v S one two j i x) where
-  at-scene : Threaded n limit W X t v (a .scene) one two j i x
+    {X : View} {j i x : ℕ} (h : (S : Scene n W t v) → HasSet n limit W X t v S one two j i x) where
+  at-scene : HasSet n limit W X t v (a .scene) one two j i x
   at-scene = h (a .scene)
 
   same-roots : filled X ≡ filled W
@@ -159,7 +159,7 @@ module _ {n N limit : ℕ} {W : View} {t v : ℕ} {one two : List ℕ} {p : ℕ}
         at-scene .set-is .same u ∙ fnOf-even n (setOf (a .scene) one two j i) u w g ∙ sym (at-scene .set-is .same w);
   }
 
-  module _ {b : ℕ} (eb : suc b ≡ i) {mask value : ℕ} (m : Asks (momentAt one two b) mask value)
+  module _ {b : ℕ} (eb : suc b ≡ i) {mask value : ℕ} (m : Joins (momentAt one two b) mask value)
       {Y : View} {o : Taken} (f : BeforePost n N limit X Y t v x mask value o) where
     set-there : (S : Scene n W t v) → Denotes (2 * n) (rowsOf X) x (fnOf n (setOf S one two j (suc b)))
     set-there S = subst (λ (i : ℕ). Denotes (2 * n) (rowsOf X) x (fnOf n (setOf S one two j i))) (sym eb) (h S .set-is)
@@ -193,10 +193,10 @@ module _ {n N limit : ℕ} {W : View} {t v : ℕ} {one two : List ℕ} {p : ℕ}
         ∙ ap (λ (z : Bool). z && fit limit (beforeNeeds n (S .fs) (S .R) (S .B) (momentAt one two b) (setOf S one two j (suc b))))
         (needs-there S)
 
-    pub turn-made : {J y : ℕ} {q : Count} → suc j ≡ J → o ≡ taken.At y q → (S : Scene n W t v) → Threaded n limit W Y t v S one two J b y
+    pub turn-made : {J y : ℕ} {q : Count} → suc j ≡ J → o ≡ taken.At y q → (S : Scene n W t v) → HasSet n limit W Y t v S one two J b y
     turn-made {y = y} eJ e S =
         let w = ran-made (ran-before S) e in
-        subst (λ (j : ℕ). Threaded n limit W Y t v S one two j b y) eJ
+        subst (λ (j : ℕ). HasSet n limit W Y t v S one two j b y) eJ
         (record { steps = steps-on S; set-is = w .1; fits = fit-by S ∙ w .0 })
 
     pub turn-full : p ≤ b → i + j ≡ lastMoment one → o ≡ taken.Full → MakePost n limit W Y t v one two p made.Full
@@ -209,5 +209,5 @@ module _ {n N limit : ℕ} {W : View} {t v : ℕ} {one two : List ℕ} {p : ℕ}
   set-ends l m k S =
       let a : i ≡ p = omega (arith, l, m) in
       let b : j ≡ lastMoment one - p = omega (arith, k, l, m) in
-      is-made (subst (λ (i : ℕ). Threaded n limit W X t v S one two (lastMoment one - p) i x) a
-      (subst (λ (j : ℕ). Threaded n limit W X t v S one two j i x) b (h S)))
+      is-made (subst (λ (i : ℕ). HasSet n limit W X t v S one two (lastMoment one - p) i x) a
+      (subst (λ (j : ℕ). HasSet n limit W X t v S one two j i x) b (h S)))

@@ -14,7 +14,7 @@ use Rattle.mucalculus.specs.Means.{bit}
 use Rattle.rows.proofs.Says.{test-no, test-yes}
 use Rattle.book.specs.States.{one}
 use Rattle.logs.specs.Runs.{fits, momentAt}
-use Rattle.moments.specs.Moment.{Fitless, Joins, Asks}
+use Rattle.moments.specs.Moment.{Fitless, entries, Joins}
 use Rattle.moments.proofs.Cubes.{and-parts, or-parts, and-half, and-bit, or-half, or-bit}
 
 -- ---- AND over OR, bit by bit
@@ -102,19 +102,19 @@ module _ (m v l w : ℕ) where
 
   module _ {mask value : ℕ} (g : Fitless mask value) {r : Bool} where
     -- where they do not, no state fits both
-    pub joins-not-one : r ≡ fits m v (bitOr v w) → not r ≡ true → Joins m v l w mask value
+    pub joins-not-one : r ≡ fits m v (bitOr v w) → not r ≡ true → Joins (entries m v l w) mask value
     joins-not-one e t = record {
       same = λ s. g .none s ∙ sym (false-of (fits m v s && fits l w s) (λ q. subst T (test-no e t) (one-fits s q)));
     }
 
-    pub joins-not-two : r ≡ fits l w (bitOr v w) → not r ≡ true → Joins m v l w mask value
+    pub joins-not-two : r ≡ fits l w (bitOr v w) → not r ≡ true → Joins (entries m v l w) mask value
     joins-not-two e t = record {
       same = λ s. g .none s ∙ sym (false-of (fits m v s && fits l w s) (λ q. subst T (test-no e t) (two-fits s q)));
     }
 
   -- where they do, they are one entry
   pub joins-both : {r q : Bool} → r ≡ fits m v (bitOr v w) → not r ≡ false → q ≡ fits l w (bitOr v w) → not q ≡ false
-      → {mask value : ℕ} → mask ≡ bitOr m l → value ≡ bitOr v w → Joins m v l w mask value
+      → {mask value : ℕ} → mask ≡ bitOr m l → value ≡ bitOr v w → Joins (entries m v l w) mask value
   joins-both e t f u a b = record {
     same = λ s. ap₂ (λ (x y : ℕ). fits x y s) a b
         ∙ both-ways (fits (bitOr m l) (bitOr v w) s) (fits m v s && fits l w s) (to s)
@@ -129,10 +129,10 @@ module _ (m v l w : ℕ) where
           (subst (λ (x : ℕ). T (eqb x w)) (ap (λ (x : ℕ). bitAnd x l) (sym is) ∙ under-two s m l) (subst T (sym (test-yes f u)) tt))
 
 -- the entries of the lists
-pub asks-of : (first second : List ℕ) (i : ℕ) {mask value : ℕ}
-    → Joins (getD first (2 * i) 0) (getD first (2 * i + 1) 0) (getD second (2 * i) 0) (getD second (2 * i + 1) 0) mask value
-    → Asks (momentAt first second i) mask value
-asks-of first second i {mask} {value} j =
+pub joins-at : (first second : List ℕ) (i : ℕ) {mask value : ℕ}
+    → Joins (entries (getD first (2 * i) 0) (getD first (2 * i + 1) 0) (getD second (2 * i) 0) (getD second (2 * i + 1) 0)) mask value
+    → Joins (momentAt first second i) mask value
+joins-at first second i {mask} {value} j =
     let e : 2 * i + 1 ≡ suc (2 * i) = omega arith in
     record {
       same = λ s.

@@ -23,17 +23,17 @@ use Rattle.routes.proofs.Find.{steps-then}
 use Rattle.logs.specs.Runs.{momentAt, setsOf}
 use Rattle.logs.specs.Call.{lastMoment}
 use Rattle.logs.proofs.Exact.{made-less, sets-small}
-use Rattle.logs.proofs.Threads.{thread-lt, onto}
-use Rattle.moments.specs.Sets.{setOf, needsOf, Threaded, MakePre, Ends, is-made, is-full, MakePost}
+use Rattle.logs.proofs.Starts.{starts-lt, onto}
+use Rattle.moments.specs.Sets.{setOf, needsOf, HasSet, MakePre, Ends, is-made, is-full, MakePost}
 use Rattle.moments.specs.Write.{Onward, restOf, WritePre, WritePost}
 
 -- a set that is made has its arrow
 pub set-made : {n limit : ℕ} {W X : View} {t v : ℕ} {S : Scene n W t v} {one two : List ℕ} {j i : ℕ} {o : Made} {x : ℕ}
-    → Ends n limit W X t v S one two j i o → o ≡ made.At x → Threaded n limit W X t v S one two j i x
+    → Ends n limit W X t v S one two j i o → o ≡ made.At x → HasSet n limit W X t v S one two j i x
 set-made {n} {limit} {W} {X} {t} {v} {S} {one} {two} {j} {i} {o} {x} d e = go (subst (λ (o : Made). Ends n limit W X t v S one two j i o)
     e d)
   where
-    go : Ends n limit W X t v S one two j i (made.At x) → Threaded n limit W X t v S one two j i x
+    go : Ends n limit W X t v S one two j i (made.At x) → HasSet n limit W X t v S one two j i x
     go (is-made h) = h
 
 -- and one that is full does not fit
@@ -107,7 +107,7 @@ module _ {n N limit : ℕ} {W : View} {t v : ℕ} {one two : List ℕ} {first : 
 
       module _ {x : ℕ} (ex : o ≡ made.At x) where
         there : (S : Scene n W t v) (r : Onward limit S one two (lastMoment one) 0 first)
-            → Threaded n limit X Y t v (scene-later (p .start) (q S r .steps) S) one two j (suc i) x
+            → HasSet n limit X Y t v (scene-later (p .start) (q S r .steps) S) one two j (suc i) x
         there S r = set-made (again S r) ex
 
         steps-after : (S : Scene n W t v) (r : Onward limit S one two (lastMoment one) 0 first) → Steps n W Y
@@ -119,7 +119,7 @@ module _ {n N limit : ℕ} {W : View} {t v : ℕ} {one two : List ℕ} {first : 
 
         here : (S : Scene n W t v) (r : Onward limit S one two (lastMoment one) 0 first) → s < 2 ^ n
         here S r =
-            thread-lt (2 ^ n) (S .R) (setsOf n (S .B) (momentAt one two)) (sets-small n (S .B) (momentAt one two)) (suc j) i s
+            starts-lt (2 ^ n) (S .R) (setsOf n (S .B) (momentAt one two)) (sets-small n (S .B) (momentAt one two)) (suc j) i s
             (q S r .ready .1)
 
         -- a run goes on from it

@@ -17,7 +17,7 @@ use Rattle.book.specs.Held.{Held}
 use Rattle.modal.specs.Chain.{Ran}
 use Rattle.layers.specs.Next.{uncounted}
 use Rattle.logs.specs.Runs.{Moment, existing, beforeNeeds}
-use Rattle.moments.specs.Moment.{Asks}
+use Rattle.moments.specs.Moment.{Joins}
 
 -- whatever functions registers and relations hold, whatever sets and pairs the three arrows stand for, and whatever entries this one
 -- stands for: the answer is the set of the moment before, exactly where its needs fit
@@ -25,6 +25,6 @@ abbrev pub BeforePost : ℕ → ℕ → ℕ → View → View → ℕ → ℕ �
 BeforePost n N limit W X t v x mask value o =
     (fs : List Fn) (R : Pairs) (E L : List Bool) (m : Moment) → Held (2 * n) (rowsOf W) (filled W) fs
     → Denotes (2 * n) (rowsOf W) t (fnOfPairs n R) → Denotes (2 * n) (rowsOf W) v (fnOf n E) → Denotes (2 * n) (rowsOf W) x (fnOf n L)
-    → Asks m mask value
+    → Joins m mask value
     → Ran n N W X (live W (x ∷ [])) (fit limit (beforeNeeds n fs R E m L))
     (fnOf n (inter (2 ^ n) (sometimes (2 ^ n) R L) (existing (2 ^ n) E m))) (needingAll (uncounted N) (beforeNeeds n fs R E m L)) o

@@ -22,7 +22,7 @@ loggedReply answer.Done = plain 0
 loggedReply (answer.Refused e) = plain (refusalNumber e)
 
 -- the answer and the list are the outcome's
-pub record Told (o : Outcome) (r : Logged) (old new : List ℕ) : Type 0 where
+pub record OutcomeTold (o : Outcome) (r : Logged) (old new : List ℕ) : Type 0 where
   pub reply : loggedReply r ≡ logEnds o old .reply
   pub list : new ≡ logEnds o old .list
 
@@ -33,7 +33,7 @@ pub record FindPre (n N limit : ℕ) (W : View) (t v : ℕ) (one two : List ℕ)
 
 pub record Finds (n limit : ℕ) (W X : View) (t v : ℕ) (S : Scene n W t v) (one two old new : List ℕ) (r : Logged) : Type 0 where
   pub steps : Steps n W X
-  pub told : Told (logOutcome n limit (S .fs) (S .R) (S .B) (momentAt one two) (lastMoment one) (length old)) r old new
+  pub told : OutcomeTold (logOutcome n limit (S .fs) (S .R) (S .B) (momentAt one two) (lastMoment one) (length old)) r old new
 
 abbrev pub FindPost : ℕ → ℕ → View → View → ℕ → ℕ → List ℕ → List ℕ → List ℕ → List ℕ → Logged → Type 0
 FindPost n limit W X t v one two old new r =

@@ -9,7 +9,7 @@ use Rattle.table.specs.declared.Made.{Made}
 use Rattle.modal.specs.declared.Limits.{Limits}
 use Rattle.modal.specs.Posts.{viewIn, Counted}
 use Rattle.layers.specs.Next.{NextPre}
-use Rattle.moments.specs.declared.Moment.{Moment}
+use Rattle.moments.specs.declared.Entry.{Entry}
 use Rattle.moments.specs.declared.Logged.{Logged}
 use Rattle.moments.specs.Fitting.{FittingPre, FittingPost}
 use Rattle.moments.specs.Before.{BeforePost}
@@ -50,16 +50,16 @@ module _ (l : Limits) (before after : List ℕ) where
   StepGives counts roots step count taken = TakenIn (2 * l .bits) (l .rows) (l .limit) before after roots counts step count taken
 
   -- the states that fit and exist
-  abbrev pub FittingGives : (counts roots : List ℕ) (valid : ℕ) (m : Moment) (count : Count) (taken : Taken) → Type 0
-  FittingGives counts roots valid m count taken =
+  abbrev pub FittingGives : (counts roots : List ℕ) (valid : ℕ) (e : Entry) (count : Count) (taken : Taken) → Type 0
+  FittingGives counts roots valid e count taken =
       Counted l after counts
-      (FittingPost (l .bits) (l .rows) (l .limit) (viewIn l before) (viewIn l after) roots valid (m .mask) (m .value) count taken)
+      (FittingPost (l .bits) (l .rows) (l .limit) (viewIn l before) (viewIn l after) roots valid (e .mask) (e .value) count taken)
 
   -- the set of the moment before
-  abbrev pub BeforeGives : (counts : List ℕ) (relation valid later : ℕ) (m : Moment) (taken : Taken) → Type 0
-  BeforeGives counts relation valid later m taken =
+  abbrev pub BeforeGives : (counts : List ℕ) (relation valid later : ℕ) (e : Entry) (taken : Taken) → Type 0
+  BeforeGives counts relation valid later e taken =
       Counted l after counts
-      (BeforePost (l .bits) (l .rows) (l .limit) (viewIn l before) (viewIn l after) relation valid later (m .mask) (m .value) taken)
+      (BeforePost (l .bits) (l .rows) (l .limit) (viewIn l before) (viewIn l after) relation valid later (e .mask) (e .value) taken)
 
   -- the set of the last moment
   abbrev pub LastGives : (counts : List ℕ) (valid : ℕ) (one two : List ℕ) (taken : Taken) → Type 0

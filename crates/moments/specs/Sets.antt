@@ -20,7 +20,7 @@ use Rattle.modal.specs.Chain.{Ran}
 use Rattle.layers.specs.Next.{uncounted}
 use Rattle.layers.specs.Scene.{Scene, Start}
 use Rattle.layers.specs.Pass.{Steps}
-use Rattle.logs.specs.Runs.{momentAt, existing, setsOf, thread, fitNeeds, setNeeds}
+use Rattle.logs.specs.Runs.{momentAt, existing, setsOf, runStarts, fitNeeds, setNeeds}
 use Rattle.logs.specs.Call.{lastMoment}
 use Rattle.moments.specs.Fitting.{FittingPre}
 
@@ -46,13 +46,13 @@ LastPost n N limit W X v one two o =
 
 -- set i, with j moments after it, and the needs of making it
 abbrev pub setOf : {n : ℕ} {W : View} {t v : ℕ} → Scene n W t v → List ℕ → List ℕ → ℕ → ℕ → List Bool
-setOf {n} S one two j i = thread (2 ^ n) (S .R) (setsOf n (S .B) (momentAt one two)) j i
+setOf {n} S one two j i = runStarts (2 ^ n) (S .R) (setsOf n (S .B) (momentAt one two)) j i
 
 abbrev pub needsOf : {n : ℕ} {W : View} {t v : ℕ} → Scene n W t v → List ℕ → List ℕ → ℕ → ℕ → List ℕ
 needsOf {n} S one two j i = setNeeds n (S .fs) (S .R) (S .B) (momentAt one two) j i
 
 -- the words after some steps; x is the arrow of set i, which fits
-pub record Threaded (n limit : ℕ) (W X : View) (t v : ℕ) (S : Scene n W t v) (one two : List ℕ) (j i x : ℕ) : Type 0 where
+pub record HasSet (n limit : ℕ) (W X : View) (t v : ℕ) (S : Scene n W t v) (one two : List ℕ) (j i x : ℕ) : Type 0 where
   pub steps : Steps n W X
   pub set-is : Denotes (2 * n) (rowsOf X) x (fnOf n (setOf S one two j i))
   pub fits : fit limit (needsOf S one two j i) ≡ true
@@ -66,7 +66,7 @@ pub record MakePre (n N limit : ℕ) (W : View) (t v : ℕ) (one two : List ℕ)
 
 -- set i is made, or its needs do not fit
 pub data Ends (n limit : ℕ) (W X : View) (t v : ℕ) (S : Scene n W t v) (one two : List ℕ) (j i : ℕ) : Made → Type 0 where
-  is-made : {x : ℕ} → Threaded n limit W X t v S one two j i x → Ends n limit W X t v S one two j i (made.At x)
+  is-made : {x : ℕ} → HasSet n limit W X t v S one two j i x → Ends n limit W X t v S one two j i (made.At x)
   is-full : Steps n W X → fit limit (needsOf S one two j i) ≡ false → Ends n limit W X t v S one two j i made.Full
 
 abbrev pub MakePost : ℕ → ℕ → View → View → ℕ → ℕ → List ℕ → List ℕ → ℕ → Made → Type 0

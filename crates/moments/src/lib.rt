@@ -12,22 +12,22 @@ use steps::Step;
 use table::Made;
 ghost use mathlib.Core.Path.{_≡_};
 ghost use Rattle.logs.specs.Runs as logs;
-ghost use Rattle.moments.specs.Moment.{Fitless, Joins, Asks, Has};
+ghost use Rattle.moments.specs.Moment.{Fitless, entries, Joins, Has};
 ghost use Rattle.moments.specs.Posts.{StepAsks, StepGives, FittingAsks, FittingGives, BeforeAsks, BeforeGives, LastAsks, LastGives};
 ghost use Rattle.moments.specs.Posts.{MakeAsks, MakeGives, WriteAsks, WriteGives, FindAsks, FindGives};
 
-// What both logs say of a state at one moment, as one entry.
-pub struct Moment {
+// An entry of a log, or what both logs' entries for a moment say together: a state fits where its masked bits equal the value.
+pub struct Entry {
     pub mask: u32,
     pub value: u32,
 }
 
-impl Moment {
+impl Entry {
     // That no state fits.
-    fn never() -> Moment
+    fn never() -> Entry
         ensures { λ r. ⌜ Fitless (r .mask) (r .value) ⌝ }
     {
-        Moment { mask: 0, value: 1 }
+        Entry { mask: 0, value: 1 }
     }
 }
 
@@ -53,26 +53,26 @@ fn fits(state: u16, mask: u16, value: u16) -> bool
 
 // Two entries for one moment, each a mask and a value, as one. A state that fits both has the bits of both values, and no other bit under
 // either mask: so where these bits alone do not fit both, no state does.
-fn joined(m: u16, v: u16, l: u16, w: u16) -> Moment
-    ensures { λ r. ⌜ Joins m v l w (r .mask) (r .value) ⌝ }
+fn joined(mask: u16, value: u16, mask2: u16, value2: u16) -> Entry
+    ensures { λ r. ⌜ Joins (entries mask value mask2 value2) (r .mask) (r .value) ⌝ }
 {
-    let both = v | w;
-    if !fits(both, m, v) {
-        return Moment::never();
+    let both = value | value2;
+    if !fits(both, mask, value) {
+        return Entry::never();
     }
-    if !fits(both, l, w) {
-        return Moment::never();
+    if !fits(both, mask2, value2) {
+        return Entry::never();
     }
-    Moment {
-        mask: wide(m | l),
+    Entry {
+        mask: wide(mask | mask2),
         value: wide(both),
     }
 }
 
 // What both logs say at moment i.
-fn moment_at(one: &[u16], two: &[u16], i: usize) -> Moment
+fn moment_at(one: &[u16], two: &[u16], i: usize) -> Entry
     requires { ⌜ Has (now one) (now two) i ⌝ }
-    ensures { λ r. ⌜ Asks (logs.momentAt (now (one .entry)) (now (two .entry)) i) (r .mask) (r .value) ⌝ }
+    ensures { λ r. ⌜ Joins (logs.momentAt (now (one .entry)) (now (two .entry)) i) (r .mask) (r .value) ⌝ }
 {
     let k = 2 * i;
     joined(one[k], one[k + 1], two[k], two[k + 1])
@@ -109,14 +109,14 @@ fn fitting(
     limits: Limits,
     roots: &[u32],
     valid: u32,
-    moment: Moment,
+    joint: Entry,
     count: Count,
 ) -> Taken
     requires { ⌜ FittingAsks limits (now words) (now counts) (now roots) valid ⌝ }
     ensures { λ r. ⌜ FittingGives limits (now (words .entry)) (now (words .exit)) (now (counts .exit)) (now (roots .entry))
-        valid moment count r ⌝ }
+        valid joint count r ⌝ }
 {
-    let cube = Step::Cube(moment.value, moment.mask ^ moment.value);
+    let cube = Step::Cube(joint.value, joint.mask ^ joint.value);
     let Taken::At { arrow: f, count: q } = take_step(words, counts, limits, roots, cube, count)
     else {
         return Taken::Full;
@@ -133,10 +133,10 @@ fn before(
     relation: u32,
     valid: u32,
     later: u32,
-    moment: Moment,
+    joint: Entry,
 ) -> Taken
     requires { ⌜ BeforeAsks limits (now words) (now counts) relation valid later ⌝ }
-    ensures { λ r. ⌜ BeforeGives limits (now (words .entry)) (now (words .exit)) (now (counts .exit)) relation valid later moment r ⌝ }
+    ensures { λ r. ⌜ BeforeGives limits (now (words .entry)) (now (words .exit)) (now (counts .exit)) relation valid later joint r ⌝ }
 {
     let uncounted = Count {
         rounds: 0,
@@ -155,7 +155,7 @@ fn before(
         return Taken::Full;
     };
     let both = [later, d];
-    let Taken::At { arrow: f, count: q } = fitting(words, counts, limits, &both, valid, moment, p)
+    let Taken::At { arrow: f, count: q } = fitting(words, counts, limits, &both, valid, joint, p)
     else {
         return Taken::Full;
     };
@@ -180,8 +180,8 @@ fn last_set(
         peak: limits.rows,
     };
     let none = [0u32; 0];
-    let moment = moment_at(one, two, one.len() / 2 - 1);
-    fitting(words, counts, limits, &none, valid, moment, uncounted)
+    let joint = moment_at(one, two, one.len() / 2 - 1);
+    fitting(words, counts, limits, &none, valid, joint, uncounted)
 }
 
 // The set of moment `at`, made from that of the last moment on.
@@ -237,6 +237,7 @@ fn write_on(
     let mut i = 0;
     while i < last {
         i += 1;
+        // Never full: what fitted once fits again.
         let Made::At(x) = make_set(words, counts, limits, relation, valid, one, two, i) else {
             return;
         };

@@ -44,7 +44,7 @@ use Rattle.coin_calls.proofs.Rests.{fare-rests}
 use Rattle.game_calls.specs.Post.{ReactPost}
 use Rattle.game_calls.proofs.Checks.{react-stays}
 use Rattle.game_calls.proofs.Rests.{react-rests}
-use Rattle.log_calls.specs.Post.{LogsFit, LogPost}
+use Rattle.log_calls.specs.Post.{LogPost}
 use Rattle.log_calls.proofs.Checks.{log-stays}
 use Rattle.log_calls.proofs.Rests.{log-rests}
 use Rattle.witness.proofs.Words.{storedIn, put-header, put-cell}
@@ -105,8 +105,8 @@ fit : Fit asked order bytes
 fit = record { few = omega arith; order-room = omega arith; answer-room = omega arith }
 
 -- the logs have three entries each
-logs-fit : LogsFit 6 6
-logs-fit = record { equal = refl; whole = refl; some = omega arith; few = omega arith }
+logs-fit : T (logsFit 6 6)
+logs-fit = tt
 
 -- ---- the calls
 

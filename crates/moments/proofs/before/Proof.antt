@@ -25,8 +25,8 @@ before-spec =
     (λ c. (
       dia-full (c .before .before .before .before .before .before .before .before .before .before .before .before .pre .0)
           (c .before .before .before .before .before .before .diamond .ensures .0)
-          (c .before .before .before .before .before .before .before .before .before .before .before .before .args .moment .mask)
-          (c .before .before .before .before .before .before .before .before .before .before .before .before .args .moment .value)
+          (c .before .before .before .before .before .before .before .before .before .before .before .before .args .joint .mask)
+          (c .before .before .before .before .before .before .before .before .before .before .before .before .args .joint .value)
           (c .enum-told .given .1),
       c .before .before .before .before .before .before .diamond .ensures .1,
     ))
@@ -56,9 +56,9 @@ before-spec =
           .before .before .before .diamond .ensures .0)
           (c .before .before .before .before .before .before .before .before .before .before .before .d .given .1)
           (c .before .before .before .before .before .before .before .before .before .before .before .before .before .before
-          .before .before .before .before .before .before .before .before .before .args .moment .mask)
+          .before .before .before .before .before .before .before .before .before .args .joint .mask)
           (c .before .before .before .before .before .before .before .before .before .before .before .before .before .before
-          .before .before .before .before .before .before .before .before .before .args .moment .value)
+          .before .before .before .before .before .before .before .before .before .args .joint .value)
           (c .before .before .before .before .before .before .fitting .ensures .0)
           (c .enum-told2 .given .1),
       c .before .before .before .before .before .before .fitting .ensures .1,
@@ -77,9 +77,9 @@ before-spec =
             (c .before .before .before .before .before .before .before .before .before .before .before .before .before
             .before .before .d .given .1)
             (c .before .before .before .before .before .before .before .before .before .before .before .before .before .before
-            .before .before .before .before .before .before .before .before .before .before .before .before .before .args .moment .mask)
+            .before .before .before .before .before .before .before .before .before .before .before .before .before .args .joint .mask)
             (c .before .before .before .before .before .before .before .before .before .before .before .before .before .before
-            .before .before .before .before .before .before .before .before .before .before .before .before .before .args .moment .value)
+            .before .before .before .before .before .before .before .before .before .before .before .before .before .args .joint .value)
             (c .before .before .before .before .before .before .before .before .before .before .fitting .ensures .0)
             (c .before .before .before .before .f .given .1),
         c .before .before .before .before .before .before .before .before
@@ -106,10 +106,10 @@ before-spec =
     .before .before .before .before .before .before .before .d .given .1 in
     let m = c .before .before .before .before .before .before .before .before .before .before .before .before .before
     .before .before .before .before .before .before .before .before .before .before .before .before .before .before
-    .before .before .before .before .before .args .moment .mask in
+    .before .before .before .before .before .args .joint .mask in
     let v = c .before .before .before .before .before .before .before .before .before .before .before .before .before
     .before .before .before .before .before .before .before .before .before .before .before .before .before .before
-    .before .before .before .before .before .args .moment .value in
+    .before .before .before .before .before .args .joint .value in
     let h = c .before .before .before .before .before .before .before .before .before .before .before .before .before
     .before .before .fitting .ensures .0 in
     let i = c .before .before .before .before .before .before .before .before .before .f .given .1 in (

@@ -17,8 +17,8 @@ fitting-spec =
       base-bits (c .before .before .before .before .before .before .pre .0 .base),
       (
         cube-asks
-            (c .before .before .before .before .before .before .args .moment .mask)
-            (c .before .before .before .before .before .before .args .moment .value)
+            (c .before .before .before .before .before .before .args .joint .mask)
+            (c .before .before .before .before .before .before .args .joint .value)
             (c .before .before .before .before .before .before .args .count)
             (c .before .before .before .before .before .before .pre .0),
         c .before .before .before .before .before .before .pre .1,
@@ -29,9 +29,9 @@ fitting-spec =
     (λ c. c .before .before .before .before .before .before .take-step .kept .0)
     (λ c. c .before .before .before .before .before .before .take-step .kept .1 .0)
     (λ c.
-    let m = c .before .before .before .before .before .before .before .before .before .before .before .before .before .args .moment .mask in
+    let m = c .before .before .before .before .before .before .before .before .before .before .before .before .before .args .joint .mask in
     let v = c .before .before .before .before .before .before .before .before .before .before .before .before
-    .before .args .moment .value in
+    .before .args .joint .value in
     let q = c .before .before .before .before .before .before .before .before .before .before .before .before .before .args .count in
     let p = c .before .before .before .before .before .before .before .before .before .before .before .before .before .pre .0 in (
       fit-full m v q p (took (p .base) (cube-asks m v q p) (c .before .before .before .before .before .before .take-step .ensures .0)
@@ -41,9 +41,9 @@ fitting-spec =
     ))
     (λ c κs.
     let m = c .before .before .before .before .before .before .before .before .before .before .before .before .before
-    .before .before .before .args .moment .mask in
+    .before .before .before .args .joint .mask in
     let v = c .before .before .before .before .before .before .before .before .before .before .before .before .before
-    .before .before .before .args .moment .value in
+    .before .before .before .args .joint .value in
     let q = c .before .before .before .before .before .before .before .before .before .before .before .before .before
     .before .before .before .args .count in
     let p = c .before .before .before .before .before .before .before .before .before .before .before .before .before
@@ -65,9 +65,9 @@ fitting-spec =
     .before .take-step .kept .1 .0)
     (λ c.
     let m = c .before .before .before .before .before .before .before .before .before .before .before .before .before
-    .before .before .before .before .before .before .before .before .args .moment .mask in
+    .before .before .before .before .before .before .before .before .args .joint .mask in
     let v = c .before .before .before .before .before .before .before .before .before .before .before .before .before
-    .before .before .before .before .before .before .before .before .args .moment .value in
+    .before .before .before .before .before .before .before .before .args .joint .value in
     let q = c .before .before .before .before .before .before .before .before .before .before .before .before .before
     .before .before .before .before .before .before .before .before .args .count in
     let p = c .before .before .before .before .before .before .before .before .before .before .before .before .before

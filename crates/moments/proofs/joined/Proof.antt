@@ -1,7 +1,7 @@
 -- `joined` meets its contract: each return is a case of what the bits of both values fit. Assumes nothing.
 use Rattle.moments.proofs.TwoEntries.{joins-not-one, joins-not-two, joins-both}
 use Rattle.moments.proofs.fits.Reads as fits-reads
-use Rattle.moments.proofs.Moment.never.Reads as never-reads
+use Rattle.moments.proofs.Entry.never.Reads as never-reads
 use Rattle.moments.proofs.wide.Reads as wide-reads
 use borrow.Author.Needs.{needs}
 use Rattle.moments.proofs.joined.Statement.{statement}
@@ -15,17 +15,17 @@ joined-spec =
     (tie.spec
     (λ c κs. search needs)
     (λ c κs. search needs)
-    (λ c. joins-not-one (c .before .before .before .args .m) (c .before .before .before .args .v) (c .before .before .before .args .l)
-    (c .before .before .before .args .w) (c .never .ensures) (c .before .before .fits2 .ensures) (c .before .if1 .taken))
+    (λ c. joins-not-one (c .before .before .before .args .mask) (c .before .before .before .args .value) (c .before .before .before .args .mask2)
+    (c .before .before .before .args .value2) (c .never .ensures) (c .before .before .fits2 .ensures) (c .before .if1 .taken))
     (λ c. search needs)
     (λ c. search needs)
-    (λ c. joins-not-two (c .before .before .before .before .before .args .m) (c .before .before .before .before .before .args .v)
-    (c .before .before .before .before .before .args .l) (c .before .before .before .before .before .args .w) (c .never2 .ensures)
+    (λ c. joins-not-two (c .before .before .before .before .before .args .mask) (c .before .before .before .before .before .args .value)
+    (c .before .before .before .before .before .args .mask2) (c .before .before .before .before .before .args .value2) (c .never2 .ensures)
     (c .before .before .fits3 .ensures) (c .before .if2 .taken))
     (λ c κs. search needs)
     (λ c. search needs)
-    (λ c. joins-both (c .before .before .before .before .before .before .args .m)
-    (c .before .before .before .before .before .before .args .v) (c .before .before .before .before .before .before .args .l)
-    (c .before .before .before .before .before .before .args .w) (c .before .before .before .before .before .fits2 .ensures)
+    (λ c. joins-both (c .before .before .before .before .before .before .args .mask)
+    (c .before .before .before .before .before .before .args .value) (c .before .before .before .before .before .before .args .mask2)
+    (c .before .before .before .before .before .before .args .value2) (c .before .before .before .before .before .fits2 .ensures)
     (c .before .before .before .before .if1 .left) (c .before .before .before .fits3 .ensures) (c .before .before .if2 .left)
     (c .before .wide .ensures) (c .wide2 .ensures)))

@@ -7,7 +7,7 @@ use Rattle.layout.specs.View.{View, view}
 use Rattle.counting.specs.Counts.{CountsOf}
 use Rattle.layers.specs.Scene.{Scene}
 use Rattle.logs.specs.Call.{lastMoment}
-use Rattle.moments.specs.Sets.{Threaded, MakePre}
+use Rattle.moments.specs.Sets.{HasSet, MakePre}
 use Rattle.moments.proofs.Sets.{entry-at, last-asks, last-made, last-full, before-asks, turn-made, turn-full, set-ends}
 use Rattle.moments.proofs.before.Reads as before-reads
 use Rattle.moments.proofs.last_set.Reads as last-set-reads
@@ -24,9 +24,9 @@ Inv-loop words₀ counts₀ limits relation valid one two at f i₀ x₀ words c
     × CountsOf (view (limits .rows) words) counts
     × ((W : View) → MakePre (limits .bits) (limits .rows) (limits .limit) W relation valid one two at
     → ((S : Scene (limits .bits) W relation valid)
-    → Threaded (limits .bits) (limits .limit) W (view (limits .rows) words₀) relation valid S one two (lastMoment one - i₀) i₀ x₀)
+    → HasSet (limits .bits) (limits .limit) W (view (limits .rows) words₀) relation valid S one two (lastMoment one - i₀) i₀ x₀)
     → (S : Scene (limits .bits) W relation valid)
-    → Threaded (limits .bits) (limits .limit) W (view (limits .rows) words) relation valid S one two (lastMoment one - i) i x)
+    → HasSet (limits .bits) (limits .limit) W (view (limits .rows) words) relation valid S one two (lastMoment one - i) i x)
 
 abbrev μ-loop : tie.MeasureT-loop
 μ-loop words₀ counts₀ limits relation valid one two at f i₀ x₀ words counts i x = i

@@ -1,5 +1,5 @@
 -- `moment_at` meets its contract: each number is read from its place. Assumes nothing.
-use Rattle.moments.proofs.TwoEntries.{asks-of}
+use Rattle.moments.proofs.TwoEntries.{joins-at}
 use Rattle.moments.proofs.joined.Reads as joined-reads
 use borrow.Author.Needs.{needs}
 use Rattle.moments.proofs.moment_at.Statement.{statement}
@@ -23,6 +23,6 @@ moment-at-spec =
     (λ c. search needs)
     (λ c. search needs)
     (λ c κs. search needs)
-    (λ c. asks-of (c .before .before .before .before .before .before .before .args .one .now)
+    (λ c. joins-at (c .before .before .before .before .before .before .before .args .one .now)
     (c .before .before .before .before .before .before .before .args .two .now)
     (c .before .before .before .before .before .before .before .args .i) (c .joined .ensures)))
