@@ -44,6 +44,7 @@ use Rattle.coin_calls.proofs.Rests.{fare-rests}
 use Rattle.game_calls.specs.Post.{ReactPost}
 use Rattle.game_calls.proofs.Checks.{react-stays}
 use Rattle.game_calls.proofs.Rests.{react-rests}
+use Rattle.logs.specs.Call.{logsFit}
 use Rattle.log_calls.specs.Post.{LogPost}
 use Rattle.log_calls.proofs.Checks.{log-stays}
 use Rattle.log_calls.proofs.Rests.{log-rests}
