@@ -56,10 +56,11 @@
  * TIME. No contract speaks of it. Every call first checks the whole table: some 50 instructions for each used row, and more where V is not
  * every state (2 ms for 28,736 rows of an ordinary table; 0.6 s for the worst table found, which was made for it). So where many records
  * are at hand, give them to one kudzuclamp_play, which checks once. R and an account's round limit bound the rounds of a set, force or
- * react, and no more than these: a formula without binders has no round, and its steps may still take long in a large table. Nothing but N
- * and the number k of moments bounds kudzuclamp_logged, which makes k sets, and k (k - 1) / 2 again to write the run: for 1,024 moments 0.3
- * to 2 s at n = 16 in ordinary rooms, but 40 to 65 ms a set in the worst one found, which was made for it: 3 s for 32 moments, and six
- * hours or more for 1,024, by that reckoning (thread times of the proved code at load 6 to 8, docs/BENCHMARKS.md, "Request 11").
+ * react, and no more than these: a formula without binders has no round, and its steps may still take long in a large table. Nothing but n,
+ * N and the number k of moments bounds kudzuclamp_logged, which makes k sets, and k (k - 1) / 2 again to write the run: for 1,024 moments
+ * 0.3 to 2 s at n = 16 in ordinary rooms, but a second for each set in the worst one found, which was made for it: 14 s for 6 moments, 56 s
+ * for 10, and by that reckoning ten minutes for 32 and six days for 1,024; worse ones may exist (thread times of the proved code,
+ * docs/BENCHMARKS.md, "Request 11").
  *
  * POINTERS. A slice is a pointer and its number of elements. No pointer may be null, not even with 0 elements. Words, accounts and lists
  * that are not const, and each answer, must overlap nothing else that is lent to the call, and no other thread may use them meanwhile; nor
