@@ -1,5 +1,7 @@
 // The entry points over lent words and a lent list of accounts. `set`, `fresh` and `terms_at` take the list and are walked by hand; what
 // they call is covered.
+#![tactic(auto)]
+
 ghost use Rattle.std.specs.Prelude.{◌≡◌};
 ghost use Rattle.accounts.specs.Listed.{none};
 ghost use Rattle.accounts.specs.Terms.{terms_with, terms_of};

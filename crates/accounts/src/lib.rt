@@ -1,5 +1,7 @@
 // Accounts that share one table, each with a row limit, a round limit and a tally of rounds. First the arithmetic on one account by value,
 // then the few thin functions over a lent list of accounts.
+#![tactic(auto)]
+
 ghost use Rattle.std.specs.Prelude.{◌≡◌, ◌<◌, ◌≤◌, min, length, get_or, set};
 ghost use Rattle.accounts.specs.Account.{tallied, counted, emptied, list_fits};
 ghost use Rattle.accounts.specs.Listed.{none, emptied_to};
@@ -8,7 +10,7 @@ ghost use Rattle.accounts.specs.Terms.{terms_with, named, lent, rows_under, roun
 // An account: the rows that a step may need and the rounds that a set call may take, beside the table's and the caller's own, and the
 // rounds of its answered sets since fresh.
 #[repr(C)]
-#[derive(Drop)]
+#[derive(Clone, Copy)]
 pub struct Account {
     pub rows: u32,
     pub rounds: u32,
@@ -16,7 +18,7 @@ pub struct Account {
 }
 
 // What a set call is told of the accounts: how many are lent, which is named, and its limits.
-#[derive(Drop)]
+#[derive(Clone, Copy)]
 pub struct Terms {
     pub count: usize,
     pub place: u32,
@@ -25,14 +27,14 @@ pub struct Terms {
 }
 
 // What a call has counted as its steps go: its rounds, and its peak, the largest row need of a step.
-#[derive(Drop)]
+#[derive(Clone, Copy)]
 pub struct Count {
     pub rounds: u32,
     pub peak: u32,
 }
 
 // The counts of a list of accounts.
-#[derive(Drop)]
+#[derive(Clone, Copy)]
 pub struct List;
 
 impl List {

@@ -297,9 +297,9 @@ first_off (pause q t) = let o = first_off t in record { after = o.after; led = �
 pub trace_cut : {W : Type 0} {contract : W → Call → W → Reply → Type 0} {rests : W → W → Type 0} {w w' : W} (l k : List Event)
     → Trace W contract rests w (l ++ k) w' → Cut W contract rests w l k w'
 trace_cut {w = w} [] k t = record { mid = w; first = stop; rest = t }
-trace_cut (x ∷ l) k t =
+trace_cut {W = W} {contract = contract} {rests = rests} {w = w} {w' = w'} (x ∷ l) k t =
     let o = first_off t in
-    let c = trace_cut l k o.rest in record { mid = c.mid; first = o.led l c.mid c.first; rest = c.rest }
+    let c = trace_cut {w = (first_off t).after} l k o.rest in record { mid = c.mid; first = o.led l c.mid c.first; rest = c.rest }
 
 -- BIGGER TABLES, SAME VERDICTS, AFTER EACH CALL: after the first calls l and l' of the two lists, wherever they are cut
 pub after-each : {W : Type 0} {words : W → ℕ} {sound : W → Type 0} {view : W → Table} {makes : W → ℕ → ℕ → ℕ → W → Reply → Type 0}

@@ -1,4 +1,6 @@
 // The call for the cheapest run from one register into another over any mix of filled relations: its checks in order, then the search.
+#![tactic(auto)]
+
 ghost use Rattle.std.specs.Prelude.{◌<◌, ◌^◌, ◌≤◌, length};
 ghost use Rattle.coin_calls.specs.Asks.{BetweenPost, PayPost, PayPre};
 ghost use Rattle.coin_calls.specs.Steps.{Ahead, IsExact, RelationTo, StepBelow};
@@ -16,7 +18,7 @@ use seek::holds;
 use soundness::sound;
 
 // A step of a run: its relation, the state it leads to, and a place of the order at which that state stands.
-#[derive(Drop)]
+#[derive(Clone, Copy)]
 struct PlacedStep {
     pub relation: u32,
     pub state: u32,

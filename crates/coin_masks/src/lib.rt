@@ -1,4 +1,6 @@
 // Of 64 states that differ in six bits only, those from which an arrow leads to one of 64 goals: a mask, which is remembered.
+#![tactic(auto)]
+
 ghost use Rattle.std.specs.Prelude.{◌+◌, ◌<◌, length, set, true, ◌≡◌};
 ghost use Rattle.coin_masks.specs.Masks.{Chosen, Lower, MaskPost, MaskPre, Upper, column_of};
 ghost use Rattle.layout.specs.Arrows.{is_row};
@@ -9,7 +11,7 @@ use seek::{follow_at, level_of};
 
 // Lent words of 64 bits: for each node which of its 64 classes are known to be marked; for each choice of the lower bits the arrow and the
 // goals that are done; spent arrows with their goals; arrows, goals and masks that are remembered.
-#[derive(Drop)]
+#[derive(Clone, Copy)]
 pub struct Notes;
 
 impl Notes {

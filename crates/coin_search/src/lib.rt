@@ -1,5 +1,7 @@
 // The search for the cheapest run into a set: states are put into an order by what it costs to come from them into the set, with no row
 // made. Order and marks stand in lent words of 64 bits, one for each state; what only saves time stands in 58 KB of the stack.
+#![tactic(auto)]
+
 ghost use Rattle.std.specs.Prelude.{◌*◌, ◌+◌, ◌-◌, ◌/◌, ◌<◌, ◌^◌, ◌≤◌, get_or, length, set, true, ◌≡◌};
 ghost use Rattle.coin_search.specs.Adds.{Adds, AddsPre, AtBit, InMask, One};
 ghost use Rattle.coin_search.specs.Choice.{Best, NextMark, Placed};
@@ -26,7 +28,7 @@ use states::bit;
 // The parts of a work word: in the low 16 bits the state at a place of the order; from bit 17 on the mark of a state, which is 0 where it
 // has none, else one more than what it costs.
 // A cost is 2^17 times the credits and one for each step, so that fewer steps win among equal credits.
-#[derive(Drop)]
+#[derive(Clone, Copy)]
 pub struct Work;
 
 impl Work {
@@ -112,7 +114,7 @@ fn join(notes: &mut [u64], p: u32, node: u32)
 
 // What is the same in the whole walk for some goals and one relation: the table's sizes, how many bits are below the six that a word of the
 // notes has, the goals' lower bits, their six others as bits of a word, and the mark.
-#[derive(Drop)]
+#[derive(Clone, Copy)]
 struct Wave {
     pub rows: u32,
     pub bits: u32,

@@ -1,11 +1,13 @@
 // What a run costs in coins. Runs over the filled relations, their totals and the cheapest ones are in specs/.
+#![tactic(auto)]
+
 ghost use Rattle.std.specs.Prelude.{◌≡◌};
 ghost use Rattle.coins.specs.Runs.{coins};
 
 use layout::Refusal;
 
 // What the call for a cheapest run answers: the credits of the run, the coins for them, and how many states it has.
-#[derive(Drop)]
+#[derive(Clone, Copy)]
 pub enum Fare {
     Paid {
         total: u32,

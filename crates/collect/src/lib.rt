@@ -1,4 +1,6 @@
 // Collecting: the rows that no root needs become unused.
+#![tactic(auto)]
+
 ghost use Rattle.std.specs.Prelude.{◌≡◌, ◌++◌, ◌*◌, ◌<◌, ◌≤◌, length};
 ghost use Rattle.layout.specs.Places.{USED, VALID, ROOTS_END, words_for};
 ghost use Rattle.layout.specs.View.{view, header_of};

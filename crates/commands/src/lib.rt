@@ -1,4 +1,6 @@
 // The commands of records, each by its call, and a whole list of them.
+#![tactic(auto)]
+
 ghost use Rattle.accounts.specs.Terms.{alone};
 ghost use Rattle.std.specs.Prelude.{◌≡◌, List, ℕ, ◌≤◌, length};
 ghost use Rattle.book.specs.Book as book;
@@ -20,7 +22,7 @@ use records::{Command, Found, read_record};
 
 // What a record returned: its operation, a refusal's number or 0, set's node number, the rounds, the value that the program shows, and the
 // peak.
-#[derive(Drop)]
+#[derive(Clone, Copy)]
 pub struct Outcome {
     pub operation: u32,
     pub number: u32,
@@ -31,7 +33,7 @@ pub struct Outcome {
 }
 
 // What became of the bytes at hand: a record was obeyed, nothing is left, more bytes are needed, or no record can be read.
-#[derive(Drop)]
+#[derive(Clone, Copy)]
 pub enum Taken {
     Done { outcome: Outcome, size: usize },
     End,
@@ -40,7 +42,7 @@ pub enum Taken {
 }
 
 // The operations of records, as outcomes show them.
-#[derive(Drop)]
+#[derive(Clone, Copy)]
 struct Operation;
 
 impl Operation {

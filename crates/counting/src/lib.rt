@@ -1,4 +1,6 @@
 // Counting rows: how many rows each step of an evaluation needs, for its peak.
+#![tactic(auto)]
+
 ghost use Rattle.std.specs.Prelude.{◌≡◌, true, false, ◌++◌, ◌≤◌, max, length, take};
 ghost use Rattle.layout.specs.View.{view};
 ghost use Rattle.layout.specs.Arrows.{is_row, row_of};
@@ -27,7 +29,7 @@ use table::Made;
 
 // What an evaluation counts rows with: marks of the rows that registers and relations reach, the base; how many these are; and sizes, which
 // are remembered: of an arrow, how many rows it reaches beside the base.
-#[derive(Drop)]
+#[derive(Clone, Copy)]
 pub struct Counts;
 
 impl Counts {
@@ -41,7 +43,7 @@ impl Counts {
 }
 
 // A table of few rows, whose marks need few words: to clear as many as the largest table needs would cost more than most of the work on it.
-#[derive(Drop)]
+#[derive(Clone, Copy)]
 pub struct Few;
 
 impl Few {
@@ -51,7 +53,7 @@ impl Few {
 }
 
 // What a step answers: the arrow of its result and the count with its need, or that the rows ran out.
-#[derive(Drop)]
+#[derive(Clone, Copy)]
 pub enum Taken {
     At { arrow: u32, count: Count },
     Full,

@@ -1,4 +1,6 @@
 // The states with some bits 1 and some bits 0: a cube of current bits, a row for each of these bits.
+#![tactic(auto)]
+
 ghost use Rattle.std.specs.Prelude.{◌≡◌, ◌<◌};
 ghost use Rattle.mucalculus.specs.Means.{bit};
 ghost use Rattle.layout.specs.View.{view};

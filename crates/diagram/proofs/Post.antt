@@ -11,7 +11,7 @@ use Rattle.diagram.proofs.Level.{part_of_turned, splits_low, splits_high}
 use Rattle.diagram.specs.Rows.{Rows, marked, row, flip, level_of, den, WellFormed, Extends, Same, Adds}
 use Rattle.diagram.proofs.Rows.{row-leads, row-arrow, leads-used, carry_arrow, marked-odd, even-marked}
 use Rattle.diagram.proofs.Den.{den-row, den-flip}
-use Rattle.diagram.proofs.Grow.{extends_refl, extends_trans, arrow_extends, den_extends, same_well_formed, adds_well_formed, put-adds}
+use Rattle.diagram.proofs.Grow.{extends_refl, extends_trans, arrow_extends, den_extends, same_well_formed, adds_well_formed, put, put-adds}
 use Rattle.diagram.specs.Used.{used_count}
 use Rattle.diagram.proofs.Used.{used_count_extends}
 use Rattle.diagram.proofs.Canon.{not-true, canonical, row-varies, reads_level}
@@ -163,7 +163,7 @@ module _ {m N : ℕ} {before : Rows} {l a b : ℕ} {F F0 F1 : Fn} (wf : WellForm
         varies = record { off = y.off; on = y.on; at_off = sym (d.same y.off) ∙ y.at_off; at_on = sym (d.same y.on) ∙ y.at_on };
         absent = λ c u e.
             let g : c ≡ row N =
-            canonical wf' c (row N) (arrow_extends s.kept c u) (row-arrow _ N s.used)
+            canonical wf' c (row N) (arrow_extends s.kept c u) (row-arrow (put before N l a b) N s.used)
             (λ v. den_extends s.kept wf m c u v ∙ e v ∙ sym (d.same v))
             in
             true≢false (sym (leads-used before c N (ap (λ x. x / 2) g ∙ row-leads N) u) ∙ out);

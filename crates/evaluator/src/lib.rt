@@ -1,4 +1,6 @@
 // The evaluation of a call's formula from its bytes, over the words of a table: of a set's, a relation's or that of valid.
+#![tactic(auto)]
+
 ghost use Rattle.std.specs.Prelude.{◌≡◌, ◌+◌, ◌<◌, ◌≤◌, length, get_or, set};
 ghost use Rattle.layout.specs.Places.{HEADER, VALID};
 ghost use Rattle.layout.specs.View.{header_of};
@@ -27,7 +29,7 @@ use steps::Step;
 use tokens::{Fix, Grammar, Join, Lead, Leaf, Mode, Token, Two, lead_at, only_now};
 
 // What an evaluation answers: the arrow of the set, the place after the formula and what is counted; or why there is none.
-#[derive(Drop)]
+#[derive(Clone, Copy)]
 pub enum Evaluated {
     Value {
         arrow: u32,
@@ -40,7 +42,7 @@ pub enum Evaluated {
 
 // What rounds are taken of: a binder's formula at the context's place, or until over a relation, whose f stands there and whose g at the
 // place named.
-#[derive(Drop)]
+#[derive(Clone, Copy)]
 enum Body {
     Binder(Fix, u32),
     Until(Mode, u32, usize),
@@ -55,7 +57,7 @@ impl Body {
 type Places = [u8; Grammar::VARIABLES];
 
 // The words in which an evaluation keeps live arrows.
-#[derive(Drop)]
+#[derive(Clone, Copy)]
 pub struct Stack;
 
 impl Stack {
@@ -66,7 +68,7 @@ impl Stack {
 
 // Where an evaluation stands: its place in the bytes, the depth left, how many words of the stack are live, the places of the open
 // variables among them, and what is counted.
-#[derive(Drop)]
+#[derive(Clone, Copy)]
 struct Context {
     at: usize,
     depth: usize,

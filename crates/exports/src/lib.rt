@@ -1,4 +1,6 @@
 // The entry points for C and Rust. Each returns a refusal's number or 0, and writes its other answers, zeros where it is refused.
+#![tactic(auto)]
+
 ghost use Rattle.std.specs.Prelude.{◌≡◌};
 ghost use Rattle.book.specs.Book as book;
 ghost use Rattle.batch_calls.specs.Posts.{BatchPost};
@@ -413,7 +415,7 @@ pub extern "C" fn kudzuclamp_check<'a>(words: &'a [u32], relation: u32, bytes: &
 }
 
 // The numbers of `kudzuclamp_play`'s own refusals.
-#[derive(Drop)]
+#[derive(Clone, Copy)]
 pub struct Playing;
 
 impl Playing {

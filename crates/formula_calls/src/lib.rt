@@ -1,5 +1,7 @@
 // The entry points that take a formula. Each makes its checks in document 01's order, and then leaves the work to one lower function.
 // A function `.._unchecked` is its entry point after check 2, on words that are known to be a sound table.
+#![tactic(auto)]
+
 ghost use Rattle.std.specs.Prelude.{◌≤◌, length};
 ghost use Rattle.layout.specs.Places.{HEADER};
 ghost use Rattle.rows.specs.Says.{Says};

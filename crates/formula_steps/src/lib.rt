@@ -1,5 +1,7 @@
 // The steps of the calls that take a formula, after their checks: the formula is evaluated, what it gives is stored, and rows are freed
 // where many are not needed any more.
+#![tactic(auto)]
+
 ghost use Rattle.std.specs.Prelude.{◌≡◌, ◌<◌, ◌≤◌, length};
 ghost use Rattle.layout.specs.Places.{REGISTERS, RELATIONS, words_for};
 ghost use Rattle.layout.specs.View.{view};
@@ -20,21 +22,21 @@ use layout::{Refusal, Table, header_word, put_header};
 use modal::Limits;
 
 // What set answers: the node number, the rounds and the peak.
-#[derive(Drop)]
+#[derive(Clone, Copy)]
 pub enum Stored {
     Node { number: u32, rounds: u32, peak: u32 },
     Refused(Refusal),
 }
 
 // What relation answers: the peak.
-#[derive(Drop)]
+#[derive(Clone, Copy)]
 pub enum Loaded {
     Done { peak: u32 },
     Refused(Refusal),
 }
 
 // What valid answers.
-#[derive(Drop)]
+#[derive(Clone, Copy)]
 pub enum Confined {
     Done,
     Refused(Refusal),

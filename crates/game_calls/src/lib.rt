@@ -1,5 +1,7 @@
 // Guest against machine. The first call, the set of states from which the machine can force the goal, is a set call: its register and its
 // bytes are made here. The second, the machine's answer to a press, is told of an account.
+#![tactic(auto)]
+
 ghost use Rattle.std.specs.Prelude.{◌≡◌, ◌%◌, ◌≤◌};
 ghost use Rattle.layout.specs.View.{view};
 ghost use Rattle.seek.specs.Walk.{HoldsPre};
@@ -16,7 +18,7 @@ use seek::holds;
 use soundness::sound;
 
 // What the second call answers: the state that the machine's move leads to.
-#[derive(Drop)]
+#[derive(Clone, Copy)]
 pub enum Response {
     State(u32),
     Refused(Refusal),

@@ -1,5 +1,7 @@
 // The rounds of the game of guest against machine, made again for one state and one press: the machine's answer is noted as the state
 // enters the set.
+#![tactic(auto)]
+
 ghost use Rattle.std.specs.Prelude.{◌≡◌};
 ghost use Rattle.game_steps.specs.Iterate.{halted_of};
 ghost use Rattle.game_steps.specs.Posts.{NoteAsks, NoteGives, IterateAsks, IterateGives, RoundsAsk, RoundsGive};
@@ -14,7 +16,7 @@ use seek::{holds, least_next};
 
 // What the machine is asked: the arrow of its relation, the state and the guest's press; and whether the press is open, a guest move of a
 // state outside the goal.
-#[derive(Drop)]
+#[derive(Clone, Copy)]
 pub struct Asked {
     pub machine: u32,
     pub state: u32,
@@ -23,7 +25,7 @@ pub struct Asked {
 }
 
 // What becomes of the rounds: the set is made, and the answer that was noted, 2^n where there is none; or why it is not made.
-#[derive(Drop)]
+#[derive(Clone, Copy)]
 pub enum Iterated {
     Made(u32),
     Full,

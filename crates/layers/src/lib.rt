@@ -1,4 +1,6 @@
 // Layers of states by their distance from a set: each is made from the one before, by the steps of a diamond and one OR.
+#![tactic(auto)]
+
 ghost use Rattle.layers.specs.Posts.{NextAsks, NextGives, AgainAsks, AgainGives, PassAsks, PassGives};
 
 use accounts::Count;
@@ -8,7 +10,7 @@ use seek::least_common;
 use steps::Step;
 
 // What the first pass ends with: the last layer's number and the least state that it shares with the start; or none.
-#[derive(Drop)]
+#[derive(Clone, Copy)]
 pub enum Reached {
     At(u32, u32),
     Nothing,

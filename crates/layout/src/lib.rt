@@ -1,4 +1,6 @@
 // The words of a table: where each thing stands, and how it is read and written.
+#![tactic(auto)]
+
 ghost use Rattle.std.specs.Prelude.{◌≡◌, true, ◌+◌, ◌*◌, ◌<◌, ◌≤◌, length};
 ghost use Rattle.layout.specs.Places.{MAX_ROWS, HEADER, CELLS, words_for};
 ghost use Rattle.layout.specs.View.{view, header_of, cell_of, list_of, head_of, slot_of, put_header, put_cell, put_list, put_head, put_slot};
@@ -8,7 +10,7 @@ ghost use Rattle.layout.specs.Arrows.{is_row, row_of, arrow_of, is_marked, flip_
 ghost use Rattle.layout.specs.Refusals.{refusal_number};
 
 // A table's two sizes, and what is fixed of every table.
-#[derive(Drop)]
+#[derive(Clone, Copy)]
 pub struct Table {
     pub bits: u32,
     pub rows: u32,
@@ -105,7 +107,7 @@ impl Table {
 }
 
 // The factors of multiplicative hashes, and how many values a word has.
-#[derive(Drop)]
+#[derive(Clone, Copy)]
 pub struct Hash;
 
 impl Hash {
@@ -119,7 +121,7 @@ impl Hash {
 }
 
 // Why a call is refused.
-#[derive(Drop)]
+#[derive(Clone, Copy)]
 pub enum Refusal {
     Sizes,
     Unsound,

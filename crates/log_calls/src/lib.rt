@@ -1,4 +1,6 @@
 // The call for a run of a relation that fits two logs.
+#![tactic(auto)]
+
 ghost use Rattle.std.specs.Prelude.{T};
 ghost use Rattle.rows.specs.Says.{Says};
 ghost use Rattle.moments.specs.Find.{logged_reply};
@@ -15,7 +17,7 @@ use moments::{Logged, find_logged};
 use soundness::sound;
 
 // How long a log may be, in numbers: two for each entry.
-#[derive(Drop)]
+#[derive(Clone, Copy)]
 pub struct Log;
 
 impl Log {

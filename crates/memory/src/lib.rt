@@ -1,4 +1,6 @@
 // Remembered results of operations: an entry is absent or right.
+#![tactic(auto)]
+
 ghost use Rattle.std.specs.Prelude.{◌≡◌, ℕ, ◌*◌, ◌<◌, ◌≤◌, length};
 ghost use Rattle.layout.specs.Arrows.{is_marked};
 ghost use Rattle.layout.specs.Places.{SLOTS, words_for};
@@ -14,7 +16,7 @@ use layout::{Hash, Table, get, header_word, is_marked, listed, put, put_header, 
 use table::{Code, Found};
 
 // What is fixed of remembered results.
-#[derive(Drop)]
+#[derive(Clone, Copy)]
 pub struct Memory {
     pub slots: u32,
 }

@@ -1,4 +1,6 @@
 // Diamond and box over arrows: chains of steps, with no bytes.
+#![tactic(auto)]
+
 ghost use Rattle.modal.specs.Posts.{QuantifyAsks, QuantifyGives, DiamondAsks, DiamondGives, ComplementAsks, ComplementGives, BoxAsks};
 ghost use Rattle.modal.specs.Posts.{BoxGives};
 
@@ -10,7 +12,7 @@ use steps::Step;
 use table::Found;
 
 // The sizes of a table and what an evaluation may use of it: state bits, rows, the row limit and the rounds.
-#[derive(Drop)]
+#[derive(Clone, Copy)]
 pub struct Limits {
     pub bits: u32,
     pub rows: u32,

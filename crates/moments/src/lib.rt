@@ -1,5 +1,7 @@
 // The sets of states from which a run goes on as two logs say, each made from the one of the next moment; and the run, written to a lent
 // list.
+#![tactic(auto)]
+
 ghost use Rattle.std.specs.Prelude.{◌≡◌};
 ghost use Rattle.logs.specs.Runs as logs;
 ghost use Rattle.moments.specs.Moment.{Fitless, entries, Joins, Has};
@@ -16,7 +18,7 @@ use steps::Step;
 use table::Made;
 
 // An entry of a log, or what both logs' entries for a moment say together: a state fits where its masked bits equal the value.
-#[derive(Drop)]
+#[derive(Clone, Copy)]
 pub struct Entry {
     pub mask: u32,
     pub value: u32,
@@ -32,7 +34,7 @@ impl Entry {
 }
 
 // What the call for a run that fits two logs answers.
-#[derive(Drop)]
+#[derive(Clone, Copy)]
 pub enum Logged {
     Done,
     Refused(Refusal),

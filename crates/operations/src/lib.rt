@@ -1,6 +1,8 @@
 // The operations on arrows: a bit, AND, OR, SHIFT and EXISTS at one level. None of them frees a row.
 // NOT makes no row: it is `layout::flip`.
 // Each answers an arrow, or `Code::FULL` where the rows ran out.
+#![tactic(auto)]
+
 ghost use Rattle.std.specs.Prelude.{◌≡◌, true, ◌<◌, ◌≤◌, min, max, length};
 ghost use Rattle.diagram.specs.Steps.{bit_f, and_f, or_f, shift_f, exists_f};
 ghost use Rattle.layout.specs.Places.{words_for};
@@ -21,7 +23,7 @@ use memory::{Memory, recall, recall_row, remember, remember_row};
 use table::{Code, Found, make};
 
 // A row's level, and the arrows that are followed from an arrow to it.
-#[derive(Drop)]
+#[derive(Clone, Copy)]
 pub struct Node {
     pub level: u32,
     pub low: u32,
@@ -130,7 +132,7 @@ fn shift_row(words: &mut [u32], rows: u32, levels: u32, limit: u32, a: u32) -> u
 }
 
 // Two arrows, the lesser first.
-#[derive(Drop)]
+#[derive(Clone, Copy)]
 pub struct Sorted {
     pub lo: u32,
     pub hi: u32,
@@ -191,7 +193,7 @@ fn top(words: &[u32], rows: u32, lo: u32, hi: u32) -> u32
 }
 
 // The arrows that are followed from an arrow where a level is 0 and where it is 1.
-#[derive(Drop)]
+#[derive(Clone, Copy)]
 pub struct Halves {
     pub low: u32,
     pub high: u32,

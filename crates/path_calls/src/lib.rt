@@ -1,4 +1,6 @@
 // The call for the shortest run from one register into another over a relation.
+#![tactic(auto)]
+
 ghost use Rattle.routes.specs.Find.{found_reply};
 ghost use Rattle.path_calls.specs.Post.{PathPost};
 ghost use Rattle.path_calls.specs.Asks.{SearchAsks, SearchGives};

@@ -1,4 +1,6 @@
 // A whole list of calls, given as records in a byte slice, over lent words.
+#![tactic(auto)]
+
 ghost use Rattle.std.specs.Prelude.{◌≡◌, ◌+◌, ◌≤◌, ◌<◌, length};
 ghost use Rattle.std.proofs.lemmas.List.Edits.{sets};
 ghost use Rattle.rows.specs.Says.{Says};
@@ -11,7 +13,7 @@ use soundness::sound;
 
 // What a list of calls came to: so many records were obeyed; or, with nothing changed, there was no room for their outcomes or a record
 // could not be read.
-#[derive(Drop)]
+#[derive(Clone, Copy)]
 pub enum Played {
     Done(usize),
     Short,
@@ -19,21 +21,21 @@ pub enum Played {
 }
 
 // How many records stand in the bytes.
-#[derive(Drop)]
+#[derive(Clone, Copy)]
 enum Counted {
     Records(usize),
     Unreadable,
 }
 
 // A record that was obeyed: its size, and whether the words are a sound table after it.
-#[derive(Drop)]
+#[derive(Clone, Copy)]
 struct Step {
     size: usize,
     sound: bool,
 }
 
 // The words of an outcome in the list: number, node, rounds, value, peak.
-#[derive(Drop)]
+#[derive(Clone, Copy)]
 pub struct Entry;
 
 impl Entry {

@@ -1,11 +1,13 @@
 // The record format of document 01's program: what the bytes at hand ask, and the line that is written for it.
+#![tactic(auto)]
+
 ghost use Rattle.std.specs.Prelude.{◌≡◌, true, false, [], ◌+◌, ◌*◌, ◌≤◌, length, get_or};
 ghost use Rattle.book.specs.Program.{decimal, text_of, fields};
 ghost use Rattle.records.specs.Record.{takes, doomed, command_in, partial, read_record, quad_at};
 ghost use Rattle.records.specs.Text.{Wrote, WroteWithin, field_text, end_line};
 
 // What a record asks; `start` is where the formula begins in the record.
-#[derive(Drop)]
+#[derive(Clone, Copy)]
 pub enum Command {
     Fresh { n: u32, rows: u32 },
     Relation { t: u32, start: usize },
@@ -16,7 +18,7 @@ pub enum Command {
 }
 
 // What stands in the bytes at hand: nothing more, a record of which more bytes are needed, none that can be read, or a whole record.
-#[derive(Drop)]
+#[derive(Clone, Copy)]
 pub enum Found {
     End,
     More,
@@ -25,7 +27,7 @@ pub enum Found {
 }
 
 // The operations of records.
-#[derive(Drop)]
+#[derive(Clone, Copy)]
 pub struct Operation;
 
 impl Operation {
@@ -43,7 +45,7 @@ impl Operation {
 }
 
 // The parts of a record: two length bytes L, the version, the operation, the arguments.
-#[derive(Drop)]
+#[derive(Clone, Copy)]
 pub struct Format;
 
 impl Format {
@@ -67,7 +69,7 @@ impl Format {
 }
 
 // The bytes of a line.
-#[derive(Drop)]
+#[derive(Clone, Copy)]
 pub struct Text;
 
 impl Text {

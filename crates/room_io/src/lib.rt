@@ -1,4 +1,6 @@
 // The program's reading and writing: records from standard input through one buffer, lines to standard output through another.
+#![tactic(auto)]
+
 ghost use Rattle.std.specs.Prelude.{◌≡◌, ◌-◌, ◌≤◌, ◌<◌, length, take, drop};
 ghost use Rattle.rows.specs.Says.{Says};
 ghost use Rattle.contract.specs.Seen.{SoundWords};
@@ -14,7 +16,7 @@ use rooms::{Said, answer};
 // How far the program is: the bytes at hand stand in the input buffer from `start` to `end`, and `pending` bytes at the front of the output
 // buffer are still to be written. `ended`: no more bytes will come. `done`: the last line is written, or a read or a write failed.
 // `sound`: the words are a sound table.
-#[derive(Drop)]
+#[derive(Clone, Copy)]
 pub struct Progress {
     pub start: usize,
     pub end: usize,
@@ -25,7 +27,7 @@ pub struct Progress {
 }
 
 // What a read brought: so many bytes, the end of the input, or nothing, as it failed.
-#[derive(Drop)]
+#[derive(Clone, Copy)]
 pub enum Brought {
     Bytes(usize),
     End,

@@ -1,4 +1,6 @@
 // `roomrules` on the bench of document 01 and every refusal: tests/program/bench.records as bytes.
+#![tactic(auto)]
+
 fn main() {
     room_io::run();
 }

@@ -1,4 +1,6 @@
 // The program's answer to the bytes at hand: a record's line, the last line, or that more bytes are needed.
+#![tactic(auto)]
+
 ghost use Rattle.rows.specs.Says.{Says};
 ghost use Rattle.contract.specs.Seen.{SoundWords};
 ghost use Rattle.rooms.specs.Replies.{Replies};
@@ -8,7 +10,7 @@ use records::{Text, write_end, write_line};
 
 // What was said: a line for so many bytes, written at the front of the room; the last line; that more bytes are needed; or that the room is
 // shorter than a line.
-#[derive(Drop)]
+#[derive(Clone, Copy)]
 pub enum Said {
     Line { used: usize, written: usize },
     End { written: usize },
@@ -17,7 +19,7 @@ pub enum Said {
 }
 
 // An answer: what was said, and whether the words are a sound table after it.
-#[derive(Drop)]
+#[derive(Clone, Copy)]
 pub struct Reply {
     pub said: Said,
     pub sound: bool,

@@ -1,4 +1,6 @@
 // The shortest run from one set into another, written to a lent list.
+#![tactic(auto)]
+
 ghost use Rattle.routes.specs.Posts.{PlaceAsks, PlaceGives, WriteAsks, WriteGives, RunAsks, RunGives, FindGives};
 ghost use Rattle.layers.specs.Posts.{PassAsks};
 
@@ -8,7 +10,7 @@ use modal::Limits;
 use seek::least_next;
 
 // What the call for a run answers: how many states it has.
-#[derive(Drop)]
+#[derive(Clone, Copy)]
 pub enum Found {
     States(u32),
     Refused(Refusal),

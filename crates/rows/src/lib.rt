@@ -1,4 +1,6 @@
 // The rows of a table: which are used, their buckets, finding one, marking what arrows reach.
+#![tactic(auto)]
+
 ghost use Rattle.std.specs.Prelude.{◌≡◌, true, false, suc, ◌*◌, ◌<◌, ◌≤◌, length};
 ghost use Rattle.layout.specs.Places.{MAX_ROWS, words_for};
 ghost use Rattle.layout.specs.View.{view, head_of};
@@ -14,7 +16,7 @@ ghost use Rattle.rows.specs.Lookup.{Room};
 use layout::{Hash, Table, get, head, header_word, is_row, listed, row_of};
 
 // A bitmap with a mark of each row.
-#[derive(Drop)]
+#[derive(Clone, Copy)]
 pub struct Bitmap;
 
 impl Bitmap {

@@ -7,7 +7,7 @@ ghost use Rattle.soundness.specs.Lists.{ROOM, FOUND, Told, Pushed, KeptOne, Kept
 use layout::{Table, flip};
 
 // How many arrows of a list are so few that pairs are remembered.
-#[derive(Drop)]
+#[derive(Clone, Copy)]
 struct Short;
 
 impl Short {

@@ -1,4 +1,6 @@
 // Whether words are a sound table.
+#![tactic(auto)]
+
 mod arrows;
 pub mod chains;
 mod tables;
@@ -135,7 +137,7 @@ fn rows_ok(words: &[u32], rows: u32, used: u32, levels: u32) -> bool
 }
 
 // How a walk along a chain ended: it met its row, missed it, or grew too long.
-#[derive(Drop)]
+#[derive(Clone, Copy)]
 enum Walk {
     Met,
     Missed,

@@ -13,7 +13,7 @@ ghost use Rattle.soundness.specs.Posts.{TabledIn, SetTabledIn, RankPre};
 use layout::{Table, get, is_marked, row_of};
 
 // The words of nothing and of everything, and what half of a word has.
-#[derive(Drop)]
+#[derive(Clone, Copy)]
 struct Cells;
 
 impl Cells {

@@ -20,7 +20,7 @@ use super::tables::{arrow_cells, disjoint, set_cells};
 use layout::{Table, carry, flip, get, header_word, row_of};
 
 // Sizes of the local lists.
-#[derive(Drop)]
+#[derive(Clone, Copy)]
 struct Sizes;
 
 impl Sizes {
@@ -57,7 +57,7 @@ fn base_of(levels: u32) -> u32
 }
 
 // Two arrows.
-#[derive(Drop)]
+#[derive(Clone, Copy)]
 struct Cofactors {
     low: u32,
     high: u32,
@@ -170,7 +170,7 @@ fn halves(
 
 // What a walk goes on with: two lists, up to `mid` and from there up to `stop`, an arrow against each, and the level that all are at, or
 // past it. `last` is where the list ends of which these are the halves.
-#[derive(Drop)]
+#[derive(Clone, Copy)]
 struct Parts {
     last: usize,
     level: u32,
@@ -409,7 +409,7 @@ fn narrow_apart(words: &[u32], rows: u32, shift: u32, from: usize, to: usize, b:
 }
 
 // The parts of the check: roots against V, relations against SHIFT of V.
-#[derive(Drop)]
+#[derive(Clone, Copy)]
 pub enum Pass {
     Now,
     Next,

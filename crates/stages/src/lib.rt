@@ -1,4 +1,6 @@
 // The EXISTS that are left of a diamond: where counts by level show that none of them can raise the peak, they are taken at once.
+#![tactic(auto)]
+
 ghost use Rattle.std.specs.Prelude.{◌≡◌, true, false, ◌*◌, ◌≤◌, ◌<◌, min, length};
 ghost use Rattle.diagram.specs.Rows.{Rows, Arrow};
 ghost use Rattle.layout.specs.View.{view};
@@ -25,7 +27,7 @@ use rows::{Bitmap, marked, set_mark};
 use table::{Code, Found};
 
 // What a survey counts with.
-#[derive(Drop)]
+#[derive(Clone, Copy)]
 pub struct Counter;
 
 impl Counter {
@@ -38,7 +40,7 @@ impl Counter {
 }
 
 // What a look at the EXISTS left tells: none needs more than a number; one may; or a result that is wanted is not remembered.
-#[derive(Drop)]
+#[derive(Clone, Copy)]
 pub enum Looked {
     Fits,
     Over,

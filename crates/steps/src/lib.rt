@@ -1,4 +1,6 @@
 // The steps of an evaluation: a step is tried; where the rows run out, the table is collected and the step tried once more.
+#![tactic(auto)]
+
 ghost use Rattle.std.specs.Prelude.{◌≡◌};
 ghost use Rattle.layout.specs.View.{view};
 ghost use Rattle.table.specs.Code.{made_of};
@@ -15,7 +17,7 @@ use operations::{and_of, bit, exists, or_of, shift};
 use table::{Made, made_of};
 
 // A step and its operands: bits and EXISTS have a level first; a cube has the bits that are 1 and those that are 0.
-#[derive(Drop)]
+#[derive(Clone, Copy)]
 pub enum Step {
     Bit(u32),
     Cube(u32, u32),
@@ -27,7 +29,7 @@ pub enum Step {
 }
 
 // Two operands.
-#[derive(Drop)]
+#[derive(Clone, Copy)]
 pub struct Operands {
     pub first: u32,
     pub second: u32,

@@ -1,4 +1,6 @@
 // The rows of a table: it is made, and rows are looked up and added.
+#![tactic(auto)]
+
 ghost use Rattle.std.specs.Prelude.{◌≡◌, ◌+◌, ◌<◌, ◌≤◌, length};
 ghost use Rattle.layout.specs.Places.{HEADER, USED, words_for};
 ghost use Rattle.layout.specs.View.{view, header_of};
@@ -52,7 +54,7 @@ pub fn make_empty(words: &mut [u32], n: u32, rows: u32)
 }
 
 // Where a row may be found.
-#[derive(Drop)]
+#[derive(Clone, Copy)]
 pub enum Found {
     At(u32),
     Nothing,
@@ -136,14 +138,14 @@ pub fn append(words: &mut [u32], rows: u32, i: u32)
 }
 
 // What making a row answers: its arrow, or that `limit` rows are used.
-#[derive(Drop)]
+#[derive(Clone, Copy)]
 pub enum Made {
     At(u32),
     Full,
 }
 
 // The same answer as one number, which a register returns: the arrow, or FULL, which is no arrow.
-#[derive(Drop)]
+#[derive(Clone, Copy)]
 pub struct Code;
 
 impl Code {

@@ -1,11 +1,13 @@
 // The tokens of document 01: what each formula byte means, and which tokens a call takes.
+#![tactic(auto)]
+
 ghost use Rattle.std.specs.Prelude.{◌≡◌, ◌≤◌};
 ghost use Rattle.tokens.specs.Tokens.{token_of, first_of, second_of, grammar_of, is_states, only_now, has_runs, leaf_allowed, two_allowed};
 ghost use Rattle.tokens.specs.Tokens.{allowed, lead_at};
 ghost use Rattle.tokens.specs.declared.Lead.TheVariants.{Is};
 
 // The call that a formula is for.
-#[derive(Drop)]
+#[derive(Clone, Copy)]
 pub enum Kind {
     Relation,
     Set,
@@ -13,7 +15,7 @@ pub enum Kind {
 }
 
 // What a formula speaks of: pairs of states, states, states and runs, or the bits of a state alone.
-#[derive(Drop)]
+#[derive(Clone, Copy)]
 pub enum Grammar {
     Pairs,
     States,
@@ -32,14 +34,14 @@ impl Grammar {
 }
 
 // How a call's formula is read, where its version is known.
-#[derive(Drop)]
+#[derive(Clone, Copy)]
 pub enum Reading {
     Is(Grammar),
     Unknown,
 }
 
 // A formula of one byte.
-#[derive(Drop)]
+#[derive(Clone, Copy)]
 pub enum Leaf {
     False,
     True,
@@ -49,34 +51,34 @@ pub enum Leaf {
     Reg(u32),
 }
 
-#[derive(Drop)]
+#[derive(Clone, Copy)]
 pub enum Join {
     And,
     Or,
 }
 
 // Box and diamond; every run and some run.
-#[derive(Drop)]
+#[derive(Clone, Copy)]
 pub enum Mode {
     All,
     Some,
 }
 
-#[derive(Drop)]
+#[derive(Clone, Copy)]
 pub enum Fix {
     Mu,
     Nu,
 }
 
 // An operator of two parts: AND or OR, or until on some or on every run of a relation.
-#[derive(Drop)]
+#[derive(Clone, Copy)]
 pub enum Two {
     Join(Join),
     Until(Mode, u32),
 }
 
 // A token: a leaf, or an operator with the number that its byte holds.
-#[derive(Drop)]
+#[derive(Clone, Copy)]
 pub enum Token {
     Leaf(Leaf),
     Not,
@@ -86,7 +88,7 @@ pub enum Token {
 }
 
 // What stands at a place: a token, or none that can be read.
-#[derive(Drop)]
+#[derive(Clone, Copy)]
 pub enum Lead {
     Is(Token),
     Bad,

@@ -11,5 +11,5 @@ rounds_of_spec =
     (tie.spec
     (λ c. search rules)
     (λ c. search rules)
-    (λ c. sym (ap rounds_of c.before.x.given.1))
-    (λ c. sym (ap rounds_of c.enum_told.given.1)))
+    (λ c. sym (ap rounds_of c.in-Node.is))
+    (λ c. sym (ap rounds_of c.in-Refused.is)))

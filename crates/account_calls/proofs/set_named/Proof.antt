@@ -11,4 +11,4 @@ set_named_spec =
     (λ c κs. search rules)
     (λ c κs. search rules)
     (λ c. search rules)
-    (λ c. termed _ _ _ _ _ _ c.before.before.before.terms-of.ensures c.before.before.set.ensures))
+    (λ c. termed _ _ _ _ _ _ c.terms_of.ensures c.set.ensures))

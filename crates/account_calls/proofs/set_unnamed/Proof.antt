@@ -11,4 +11,4 @@ set_unnamed_spec =
     (λ c κs. search rules)
     (λ c κs. search rules)
     (λ c. search rules)
-    (λ c. termed _ _ _ _ _ _ c.before.before.before.unnamed.ensures c.before.before.set.ensures))
+    (λ c. termed _ _ _ _ _ _ c.unnamed.ensures c.set.ensures))

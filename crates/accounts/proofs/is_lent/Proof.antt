@@ -6,6 +6,6 @@ use Rattle.accounts.proofs.is_lent.Tie as tie
 
 pub is_lent_spec : {M : Type 1} → statement M
 is_lent_spec = tie.close (tie.spec
-    (λ c. none_lent c.before.args.count (omega arith))
-    (λ c. many-lent c.before.before.args.count (omega arith))
-    (λ c. some-lent c.before.before.args.count (omega arith) (omega arith)))
+    (λ c. none_lent c.args.count (omega arith))
+    (λ c. many-lent c.args.count (omega arith))
+    (λ c. some-lent c.args.count (omega arith) (omega arith)))

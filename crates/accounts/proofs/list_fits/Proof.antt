@@ -6,6 +6,6 @@ use Rattle.accounts.proofs.list_fits.Tie as tie
 
 pub list_fits_spec : {M : Type 1} → statement M
 list_fits_spec = tie.close (tie.spec
-    (λ c. too_long c.before.args.count c.before.args.place (omega arith))
-    (λ c. has-place c.before.before.args.count c.before.before.args.place (omega arith) (omega arith))
-    (λ c. no_place c.before.before.args.count c.before.before.args.place (omega arith)))
+    (λ c. too_long c.args.count c.args.place (omega arith))
+    (λ c. has-place c.args.count c.args.place (omega arith) (omega arith))
+    (λ c. no_place c.args.count c.args.place (omega arith)))

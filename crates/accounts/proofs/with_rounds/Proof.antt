@@ -11,4 +11,4 @@ tallying a t = record { rows = a.rows; rounds = a.rounds; tally = t }
 
 pub with_rounds_spec : {M : Type 1} → statement M
 unfolding tallying
-with_rounds_spec = tie.close (tie.spec (λ c κs. search rules) (λ c. ap (tallying c.before.args.a) c.add.ensures))
+with_rounds_spec = tie.close (tie.spec (λ c κs. search rules) (λ c. ap (tallying c.args.a) c.add-tally.ensures))

@@ -9,10 +9,10 @@ use Rattle.calls.proofs.Questions.{state_in, state_out}
 use Rattle.batch_calls.proofs.in_range.Statement.{statement}
 use Rattle.batch_calls.proofs.in_range.Tie as tie
 
-abbrev invariant_loop : tie.invariant_loop
+abbrev invariant_loop : tie.invariant-loop-k
 invariant_loop states n k₀ k = (i : ℕ) → i < k → get_or states i 0 < 2 ^ n
 
-abbrev decreases_loop : tie.decreases_loop
+abbrev decreases_loop : tie.decreases-loop-k
 decreases_loop states n k₀ k = length states - k
 
 pub in-range-spec : {M : Type 1} → statement M
@@ -24,10 +24,10 @@ in-range-spec =
     (λ c. λ i l. absurd (omega arith))
     (λ c. search rules)
     (λ c. search rules)
-    (λ c. omega (arith, c.shared-slice-known.given c.before.before.loop.k))
+    (λ c. omega (arith, c.shared_slice_known-1.given c.loop-k.k))
     (λ c. search rules)
-    (λ c. fails (λ q. let o = state_out _ _ c.if1.true in let l = q _ c.before.before.loop-test.true in omega arith))
+    (λ c. fails (λ q. let o = state_out _ _ c.if-states-k-ne0.true in let l = q _ c.loop-k-test.true in omega arith))
     (λ c. search rules)
     (λ c. search rules)
-    (λ c. below_more _ _ c.before.before.before.loop.invariant (state_in _ _ c.if1.false))
-    (λ c. holds (λ i l. let t = c.loop-test.false in c.before.loop.invariant i (omega arith))))
+    (λ c. below_more _ _ c.loop-k.invariant (state_in _ _ c.if-states-k-ne0.false))
+    (λ c. holds (λ i l. let t = c.loop-k-test.false in c.loop-k.invariant i (omega arith))))

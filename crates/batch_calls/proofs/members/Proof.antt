@@ -13,75 +13,75 @@ members_spec =
     tie.close
     (tie.spec
     (λ c κs. search rules)
-    (λ c. refuse-sizes _ (says_fail c.if1.true c.before.lists-fit.ensures))
+    (λ c. refuse-sizes _ (says_fail c.if-not-lists_fit.true-raw c.lists_fit.ensures))
     (λ c κs. search rules)
-    (λ c. refuse-unsound _ (says_pass c.before.before.if1.false c.before.before.before.lists-fit.ensures)
-    (says_fail c.if2.true c.before.sound.ensures))
-    (λ c. refuse-range _ (says_pass c.before.before.before.if1.false c.before.before.before.before.lists-fit.ensures)
-    (says_pass c.before.if2.false c.before.before.sound.ensures)
-    (λ z. let l = z.register in let t = c.if3.true in omega arith))
-    (λ c κs. let z = (says_pass c.before.if2.false c.before.before.sound.ensures).good.sizes in omega arith)
-    (λ c κs. let z = (says_pass c.before.before.if2.false c.before.before.before.sound.ensures).good.sizes in
-    let e = c.header-word.ensures in omega arith)
+    (λ c. refuse-unsound _ (says_pass c.if-not-lists_fit.false-raw c.lists_fit.ensures)
+    (says_fail c.if-not-sound.true-raw c.sound.ensures))
+    (λ c. refuse-range _ (says_pass c.if-not-lists_fit.false-raw c.lists_fit.ensures)
+    (says_pass c.if-not-sound.false-raw c.sound.ensures)
+    (λ z. let l = z.register in let t = c.if-r-ge-REGISTERS.true in omega arith))
+    (λ c κs. let z = (says_pass c.if-not-sound.false-raw c.sound.ensures).good.sizes in omega arith)
+    (λ c κs. let z = (says_pass c.if-not-sound.false-raw c.sound.ensures).good.sizes in
+    let e = c.header_word-n.ensures in omega arith)
     (λ c. refuse-range _
-    (says_pass c.before.before.before.before.before.before.if1.false
-    c.before.before.before.before.before.before.before.lists-fit.ensures)
-    (says_pass c.before.before.before.before.if2.false c.before.before.before.before.before.sound.ensures)
-    (range-not _ c.before.before.header-word.ensures (says_fail c.if4.true c.before.in-range.ensures)))
+    (says_pass c.if-not-lists_fit.false-raw
+    c.lists_fit.ensures)
+    (says_pass c.if-not-sound.false-raw c.sound.ensures)
+    (range-not _ c.header_word-n.ensures (says_fail c.if-not-in_range.true-raw c.in_range.ensures)))
     (λ c. search rules)
     (λ c κs. let z =
-    (says_pass c.before.before.before.before.if2.false
-    c.before.before.before.before.before.sound.ensures).good.sizes in
-    let t = c.before.before.before.if3.false in omega arith)
+    (says_pass c.if-not-sound.false-raw
+    c.sound.ensures).good.sizes in
+    let t = c.if-r-ge-REGISTERS.false in omega arith)
     (λ c. refuse-empty _
-    (says_pass c.before.before.before.before.before.before.before.before.if1.false
-    c.before.before.before.before.before.before.before.before.before.lists-fit.ensures)
-    (says_pass c.before.before.before.before.before.before.if2.false
-    c.before.before.before.before.before.before.before.sound.ensures)
-    (range-is _ c.before.before.before.before.header-word.ensures c.before.before.before.before.before.if3.false
-    (says_pass c.before.before.if4.false c.before.before.before.in-range.ensures)) c.before.header-word2.ensures
-    c.if5.true)
+    (says_pass c.if-not-lists_fit.false-raw
+    c.lists_fit.ensures)
+    (says_pass c.if-not-sound.false-raw
+    c.sound.ensures)
+    (range-is _ c.header_word-n.ensures c.if-r-ge-REGISTERS.false
+    (says_pass c.if-not-in_range.false-raw c.in_range.ensures)) c.header_word-x.ensures
+    c.if-x-eq0.true)
     (λ c κs. let z =
-    (says_pass c.before.before.before.before.before.before.if2.false
-    c.before.before.before.before.before.before.before.sound.ensures).good.sizes in omega arith)
+    (says_pass c.if-not-sound.false-raw
+    c.sound.ensures).good.sizes in omega arith)
     (λ c κs. let f =
-    (says_pass c.before.before.before.before.before.before.before.before.before.before.if1.false
-    c.before.before.before.before.before.before.before.before.before.before.before.lists-fit.ensures) in
+    (says_pass c.if-not-lists_fit.false-raw
+    c.lists_fit.ensures) in
     (f.few, f.order-room))
     (λ c. search rules)
     (λ c κs. ask-pre _
     (says_pass
-    c.before.before.before.before.before.before.before.before.before.before.before.before.before.before.before.if1.false c.before.before.before.before.before.before.before.before.before.before.before.before.before.before.before.before.lists-fit.ensures)
-    (says_pass c.before.before.before.before.before.before.before.before.before.before.before.before.before.if2.false
-    c.before.before.before.before.before.before.before.before.before.before.before.before.before.before.sound.ensures)
-    (range-is _ c.before.before.before.before.before.before.before.before.before.before.before.header-word.ensures
-    c.before.before.before.before.before.before.before.before.before.before.before.before.if3.false
-    (says_pass c.before.before.before.before.before.before.before.before.before.if4.false
-    c.before.before.before.before.before.before.before.before.before.before.in-range.ensures))
-    c.before.before.before.before.before.before.before.before.header-word2.ensures
-    c.before.before.before.before.before.before.before.if5.false
-    c.before.before.before.before.before.before.header-word3.ensures refl c.before.before.before.before.lay.ensures
-    c.before.before.before.before.lay.auto.0)
-    (λ c. c.before.before.before.before.ask.auto.1.1.1.1.0
-    ∙ c.before.before.before.before.before.before.before.before.before.lay.auto.0)
-    (λ c. c.before.before.before.before.ask.auto.1.1.1.1.1.0)
+    c.if-not-lists_fit.false-raw c.lists_fit.ensures)
+    (says_pass c.if-not-sound.false-raw
+    c.sound.ensures)
+    (range-is _ c.header_word-n.ensures
+    c.if-r-ge-REGISTERS.false
+    (says_pass c.if-not-in_range.false-raw
+    c.in_range.ensures))
+    c.header_word-x.ensures
+    c.if-x-eq0.false
+    c.header_word-rows.ensures refl c.lay.ensures
+    c.lay.auto.order)
+    (λ c. c.ask.auto.order
+    ∙ c.lay.auto.order)
+    (λ c. c.ask.auto.answers)
     (λ c. answer _
     (says_pass
-    c.before.before.before.before.before.before.before.before.before.before.before.before.before.before.before.before.before.before.before.before.if1.false
-    c.before.before.before.before.before.before.before.before.before.before.before.before.before.before.before.before.before.before.before.before.before.lists-fit.ensures)
+    c.if-not-lists_fit.false-raw
+    c.lists_fit.ensures)
     (says_pass
-    c.before.before.before.before.before.before.before.before.before.before.before.before.before.before.before.before.before.before.if2.false
-    c.before.before.before.before.before.before.before.before.before.before.before.before.before.before.before.before.before.before.before.sound.ensures)
+    c.if-not-sound.false-raw
+    c.sound.ensures)
     (range-is _
-    c.before.before.before.before.before.before.before.before.before.before.before.before.before.before.before.before.header-word.ensures
-    c.before.before.before.before.before.before.before.before.before.before.before.before.before.before.before.before.before.if3.false
+    c.header_word-n.ensures
+    c.if-r-ge-REGISTERS.false
     (says_pass
-    c.before.before.before.before.before.before.before.before.before.before.before.before.before.before.if4.false
-    c.before.before.before.before.before.before.before.before.before.before.before.before.before.before.before.in-range.ensures))
-    c.before.before.before.before.before.before.before.before.before.before.before.before.before.header-word2.ensures
-    c.before.before.before.before.before.before.before.before.before.before.before.before.if5.false
-    c.before.before.before.before.before.before.before.before.before.before.before.header-word3.ensures refl
-    c.before.before.before.before.before.before.before.before.before.lay.ensures
-    (c.before.before.before.before.ask.auto.1.1.1.1.0
-    ∙ c.before.before.before.before.before.before.before.before.before.lay.auto.0)
-    c.before.before.before.before.ask.auto.1.1.1.1.1.0 c.before.before.before.before.ask.ensures))
+    c.if-not-in_range.false-raw
+    c.in_range.ensures))
+    c.header_word-x.ensures
+    c.if-x-eq0.false
+    c.header_word-rows.ensures refl
+    c.lay.ensures
+    (c.ask.auto.order
+    ∙ c.lay.auto.order)
+    c.ask.auto.answers c.ask.ensures))

@@ -9,12 +9,12 @@ pub clear_unchecked_spec : {M : Type 1} → statement M
 clear_unchecked_spec =
     tie.close
     (tie.spec
-    (λ c. clear-range _ _ c.before.before.requires c.if1.true)
-    (λ c κs. let z = c.before.before.before.requires.good.sizes in omega arith)
+    (λ c. clear-range _ _ c.requires c.if-r-ge-REGISTERS.true)
+    (λ c κs. let z = c.requires.good.sizes in omega arith)
     (λ c. search rules)
-    (λ c κs. let z = c.before.before.before.before.before.requires.good.sizes in
-    let e = c.before.header-word.ensures in let t = c.before.before.before.if1.false in omega arith)
+    (λ c κs. let z = c.requires.good.sizes in
+    let e = c.header_word-rows.ensures in let t = c.if-r-ge-REGISTERS.false in omega arith)
     (λ c. search rules)
-    (λ c. clear-done _ _ _ c.before.before.before.before.before.before.before.before.requires
-    c.before.before.before.before.before.before.if1.false c.before.before.before.before.header-word.ensures
-    c.before.before.put_header_lem.ensures))
+    (λ c. clear-done _ _ _ c.requires
+    c.if-r-ge-REGISTERS.false c.header_word-rows.ensures
+    c.put_header.ensures))

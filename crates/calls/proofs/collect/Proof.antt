@@ -11,7 +11,7 @@ collect_spec =
     (tie.spec
     (λ c κs. search rules)
     (λ c. search rules)
-    (λ c. call-unsound _ (says_fail c.if1.true c.before.sound.ensures) _)
-    (λ c κs. says_pass c.before.if1.false c.before.before.sound.ensures)
+    (λ c. call-unsound _ (says_fail c.if-not-sound.true-raw c.sound.ensures) _)
+    (λ c κs. says_pass c.if-not-sound.false-raw c.sound.ensures)
     (λ c. search rules)
     (λ c. search rules))

@@ -9,8 +9,8 @@ pub collect_unchecked_spec : {M : Type 1} → statement M
 collect_unchecked_spec =
     tie.close
     (tie.spec
-    (λ c κs. let z = c.before.before.requires.good.sizes in omega arith)
-    (λ c κs. rw c.before.header-word.ensures c.before.before.before.before.requires)
+    (λ c κs. let z = c.requires.good.sizes in omega arith)
+    (λ c κs. rw c.header_word-rows.ensures c.requires)
     (λ c. search rules)
-    (λ c. collect-done _ _ c.before.before.before.before.before.before.before.requires
-    c.before.before.before.before.header-word.ensures c.before.before.collect-rows.ensures))
+    (λ c. collect-done _ _ c.requires
+    c.header_word-rows.ensures c.collect_rows.ensures))

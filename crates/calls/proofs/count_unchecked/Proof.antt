@@ -9,20 +9,20 @@ pub count_unchecked_spec : {M : Type 1} → statement M
 count_unchecked_spec =
     tie.close
     (tie.spec
-    (λ c. count-range _ c.before.before.requires _ c.if1.true)
+    (λ c. count-range _ c.requires _ c.if-r-ge-REGISTERS.true)
     (λ c. search rules)
-    (λ c κs. let z = c.before.before.requires.good.sizes in let t = c.if1.false in omega arith)
-    (λ c. count-empty _ c.before.before.before.before.requires _ c.before.before.if1.false c.before.header-word.ensures
-    c.if2.true)
-    (λ c κs. let z = c.before.before.before.before.requires.good.sizes in omega arith)
-    (λ c κs. let z = c.before.before.before.before.before.requires.good.sizes in omega arith)
+    (λ c κs. let z = c.requires.good.sizes in let t = c.if-r-ge-REGISTERS.false in omega arith)
+    (λ c. count-empty _ c.requires _ c.if-r-ge-REGISTERS.false c.header_word-x.ensures
+    c.if-x-eq0.true)
+    (λ c κs. let z = c.requires.good.sizes in omega arith)
+    (λ c κs. let z = c.requires.good.sizes in omega arith)
     (λ c. search rules)
     (λ c κs. (
-      walk-pre _ c.before.before.before.before.before.before.requires _ c.before.before.before.before.if1.false
-          c.before.before.before.header-word.ensures c.before.before.if2.false c.before.header-word2.ensures,
-      c.header-word3.ensures,
+      walk-pre _ c.requires _ c.if-r-ge-REGISTERS.false
+          c.header_word-x.ensures c.if-x-eq0.false c.header_word-rows.ensures,
+      c.header_word-n.ensures,
     ))
-    (λ c. count-told _ c.before.before.before.before.before.before.before.requires _
-    c.before.before.before.before.before.if1.false c.before.before.before.before.header-word.ensures
-    c.before.before.before.if2.false c.before.header-word3.ensures c.before.before.header-word2.ensures
-    c.count-states.ensures))
+    (λ c. count-told _ c.requires _
+    c.if-r-ge-REGISTERS.false c.header_word-x.ensures
+    c.if-x-eq0.false c.header_word-n.ensures c.header_word-rows.ensures
+    c.count_states.ensures))

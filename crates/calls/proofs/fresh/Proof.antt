@@ -11,20 +11,20 @@ fresh_spec =
     tie.close
     (tie.spec
     (λ c κs. search rules)
-    (λ c. (fresh-refused _ _ _ _ (says_fail c.if1.true c.before.sizes-fit.ensures), refl))
+    (λ c. (fresh-refused _ _ _ _ (says_fail c.if-not-sizes_fit.true-raw c.sizes_fit.ensures), refl))
     (λ c κs. search rules)
     (λ c. (
-      fresh_unlisted _ _ _ _ (says_pass c.before.before.if1.false c.before.before.before.sizes-fit.ensures)
-          (test_fails c.if2.true c.before.is-lent.ensures),
+      fresh_unlisted _ _ _ _ (says_pass c.if-not-sizes_fit.false-raw c.sizes_fit.ensures)
+          (test_fails c.if-not-is_lent.true-raw c.is_lent.ensures),
       refl,
     ))
-    (λ c κs. (says_pass c.before.before.before.if1.false c.before.before.before.before.sizes-fit.ensures).room)
+    (λ c κs. (says_pass c.if-not-sizes_fit.false-raw c.sizes_fit.ensures).room)
     (λ c. search rules)
     (λ c. (
       fresh-ready _ _ _ _ _
-          (says_pass c.before.before.before.before.before.before.if1.false
-          c.before.before.before.before.before.before.before.sizes-fit.ensures)
-          (test_holds c.before.before.before.before.if2.false c.before.before.before.before.before.is-lent.ensures)
-          c.before.before.make-empty.ensures,
-      c.before.before.make-empty.ensures,
+          (says_pass c.if-not-sizes_fit.false-raw
+          c.sizes_fit.ensures)
+          (test_holds c.if-not-is_lent.false-raw c.is_lent.ensures)
+          c.make_empty.ensures,
+      c.make_empty.ensures,
     )))

@@ -13,40 +13,40 @@ member_spec =
     tie.close
     (tie.spec
     (λ c κs. search rules)
-    (λ c. ask-unsound _ (says_fail c.if1.true c.before.sound.ensures) _)
-    (λ c. member-range _ (says_pass c.before.if1.false c.before.before.sound.ensures) _ _ c.if2.true)
-    (λ c κs. let z = (says_pass c.before.if1.false c.before.before.sound.ensures).good.sizes in omega arith)
-    (λ c. let z = (says_pass c.before.before.if1.false c.before.before.before.sound.ensures).good.sizes in
-    let e = c.header-word.ensures in omega arith)
-    (λ c. member_out _ (says_pass c.before.before.before.if1.false c.before.before.before.before.sound.ensures) _
-    c.before.header-word.ensures _ c.before.before.if2.false c.if3.true)
+    (λ c. ask-unsound _ (says_fail c.if-not-sound.true-raw c.sound.ensures) _)
+    (λ c. member-range _ (says_pass c.if-not-sound.false-raw c.sound.ensures) _ _ c.if-r-ge-REGISTERS.true)
+    (λ c κs. let z = (says_pass c.if-not-sound.false-raw c.sound.ensures).good.sizes in omega arith)
+    (λ c. let z = (says_pass c.if-not-sound.false-raw c.sound.ensures).good.sizes in
+    let e = c.header_word-n.ensures in omega arith)
+    (λ c. member_out _ (says_pass c.if-not-sound.false-raw c.sound.ensures) _
+    c.header_word-n.ensures _ c.if-r-ge-REGISTERS.false c.if-s-n-ne0.true)
     (λ c. search rules)
-    (λ c κs. let z = (says_pass c.before.before.before.if1.false c.before.before.before.before.sound.ensures).good.sizes in
-    let t = c.before.before.if2.false in omega arith)
+    (λ c κs. let z = (says_pass c.if-not-sound.false-raw c.sound.ensures).good.sizes in
+    let t = c.if-r-ge-REGISTERS.false in omega arith)
     (λ c. member-empty _
-    (says_pass c.before.before.before.before.before.if1.false
-    c.before.before.before.before.before.before.sound.ensures) _ c.before.before.before.before.if2.false
-    c.before.header-word2.ensures c.before.before.before.header-word.ensures _ c.before.before.if3.false
-    c.if4.true)
-    (λ c κs. let z = (says_pass c.before.before.before.before.before.if1.false
-    c.before.before.before.before.before.before.sound.ensures).good.sizes in omega arith)
+    (says_pass c.if-not-sound.false-raw
+    c.sound.ensures) _ c.if-r-ge-REGISTERS.false
+    c.header_word-x.ensures c.header_word-n.ensures _ c.if-s-n-ne0.false
+    c.if-x-eq0.true)
+    (λ c κs. let z = (says_pass c.if-not-sound.false-raw
+    c.sound.ensures).good.sizes in omega arith)
     (λ c. search rules)
     (λ c κs. walk-pre _
-    (says_pass c.before.before.before.before.before.before.if1.false
-    c.before.before.before.before.before.before.before.sound.ensures) _
-    c.before.before.before.before.before.if2.false c.before.before.header-word2.ensures c.before.if4.false
-    c.header-word3.ensures)
+    (says_pass c.if-not-sound.false-raw
+    c.sound.ensures) _
+    c.if-r-ge-REGISTERS.false c.header_word-x.ensures c.if-x-eq0.false
+    c.header_word-rows.ensures)
     (λ c. member-told _
-    (says_pass c.before.before.before.before.before.before.before.before.if1.false
-    c.before.before.before.before.before.before.before.before.before.sound.ensures) _
-    c.before.before.before.before.before.before.before.if2.false c.before.before.before.before.header-word2.ensures
-    c.before.before.before.if4.false c.before.before.before.before.before.before.header-word.ensures
-    c.before.before.header-word3.ensures _ c.before.before.before.before.before.if3.false true c.before.walk.ensures
-    c.if5.true)
+    (says_pass c.if-not-sound.false-raw
+    c.sound.ensures) _
+    c.if-r-ge-REGISTERS.false c.header_word-x.ensures
+    c.if-x-eq0.false c.header_word-n.ensures
+    c.header_word-rows.ensures _ c.if-s-n-ne0.false true c.walk.ensures
+    c.if-walk.true)
     (λ c. member-told _
-    (says_pass c.before.before.before.before.before.before.before.before.if1.false
-    c.before.before.before.before.before.before.before.before.before.sound.ensures) _
-    c.before.before.before.before.before.before.before.if2.false c.before.before.before.before.header-word2.ensures
-    c.before.before.before.if4.false c.before.before.before.before.before.before.header-word.ensures
-    c.before.before.header-word3.ensures _ c.before.before.before.before.before.if3.false false c.before.walk.ensures
-    c.if5.false))
+    (says_pass c.if-not-sound.false-raw
+    c.sound.ensures) _
+    c.if-r-ge-REGISTERS.false c.header_word-x.ensures
+    c.if-x-eq0.false c.header_word-n.ensures
+    c.header_word-rows.ensures _ c.if-s-n-ne0.false false c.walk.ensures
+    c.if-walk.false))

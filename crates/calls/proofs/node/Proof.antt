@@ -12,13 +12,13 @@ node_spec =
     tie.close
     (tie.spec
     (λ c κs. search rules)
-    (λ c. ask-unsound _ (says_fail c.if1.true c.before.sound.ensures) _)
-    (λ c. node-range _ (says_pass c.before.if1.false c.before.before.sound.ensures) _ c.if2.true)
+    (λ c. ask-unsound _ (says_fail c.if-not-sound.true-raw c.sound.ensures) _)
+    (λ c. node-range _ (says_pass c.if-not-sound.false-raw c.sound.ensures) _ c.if-r-ge-REGISTERS.true)
     (λ c. search rules)
-    (λ c κs. let z = (says_pass c.before.if1.false c.before.before.sound.ensures).good.sizes in
-    let t = c.if2.false in omega arith)
+    (λ c κs. let z = (says_pass c.if-not-sound.false-raw c.sound.ensures).good.sizes in
+    let t = c.if-r-ge-REGISTERS.false in omega arith)
     (λ c. search rules)
-    (λ c. node-told _ (says_pass c.before.before.before.if1.false c.before.before.before.before.sound.ensures) _
-    c.before.before.if2.false c.before.header-word.ensures c.if3.true)
-    (λ c. node-empty _ (says_pass c.before.before.before.if1.false c.before.before.before.before.sound.ensures) _
-    c.before.before.if2.false c.before.header-word.ensures c.if3.false))
+    (λ c. node-told _ (says_pass c.if-not-sound.false-raw c.sound.ensures) _
+    c.if-r-ge-REGISTERS.false c.header_word-x.ensures c.if-x-ne0.true)
+    (λ c. node-empty _ (says_pass c.if-not-sound.false-raw c.sound.ensures) _
+    c.if-r-ge-REGISTERS.false c.header_word-x.ensures c.if-x-ne0.false))

@@ -14,12 +14,12 @@ between_spec =
     (tie.spec
     (λ c κs. search rules)
     (λ c. search rules)
-    (λ c. between_none c.before.before.before.search.auto.1.1.1.1.0 c.before.before.before.search.ensures c.if1.true)
+    (λ c. between_none c.search-first.auto.work c.search-first.ensures c.if-first-eq-NO_STATE.true)
     (λ c κs. (
-      pay-asks c.before.before.before.before.before.before.search.auto.1.1.1.1.0 c.before.before.before.before.before.before.search.ensures c.before.before.before.before.before.before.before.before.before.before.before.before.before.requires.0 c.before.before.before.if1.false,
-      c.before.before.before.before.before.before.before.before.before.before.before.before.before.requires.1,
+      pay-asks c.search-first.auto.work c.search-first.ensures c.requires.0 c.if-first-eq-NO_STATE.false,
+      c.requires.1,
     ))
     (λ c. search rules)
     (λ c. search rules)
     (λ c. search rules)
-    (λ c. between-paid c.before.before.before.before.before.before.before.before.before.before.before.search.auto.1.1.1.1.0 c.before.before.before.before.before.before.before.before.before.before.before.search.ensures c.before.before.before.before.before.before.before.before.if1.false c.before.before.before.before.pay.ensures))
+    (λ c. between-paid c.search-first.auto.work c.search-first.ensures c.if-first-eq-NO_STATE.false c.pay.ensures))

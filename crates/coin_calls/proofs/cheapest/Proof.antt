@@ -19,51 +19,51 @@ cheapest_spec =
     tie.close
     (tie.spec
     cast_if1
-    (λ c. fare_prices c.before.before.before.before.before.before.args.a c.before.before.before.before.before.before.args.b c.before.before.before.before.before.before.args.words.now c.before.before.before.before.before.before.args.prices.now c.before.before.before.before.before.before.args.work.now c.before.before.before.before.before.before.args.states.now c.before.before.before.before.before.before.args.relations.now c.if1.true)
+    (λ c. fare_prices c.args.a c.args.b c.args.words.now c.args.prices.now c.args.work.now c.args.states.now c.args.relations.now c.if-prices.true)
     (λ c κs. search rules)
-    (λ c. fare_unsound c.before.before.before.before.before.before.before.before.args.a c.before.before.before.before.before.before.before.before.args.b c.before.before.before.before.before.before.before.before.args.words.now c.before.before.before.before.before.before.before.before.args.prices.now c.before.before.before.before.before.before.before.before.args.work.now c.before.before.before.before.before.before.before.before.args.states.now c.before.before.before.before.before.before.before.before.args.relations.now c.before.before.if1.false (says_fail c.if2.true c.before.sound.ensures))
-    (λ c κs. let q = (says_pass c.if2.false c.before.sound.ensures).good.sizes in omega arith)
-    (λ c κs. let q = (says_pass c.before.if2.false c.before.before.sound.ensures).good.sizes in omega arith)
+    (λ c. fare_unsound c.args.a c.args.b c.args.words.now c.args.prices.now c.args.work.now c.args.states.now c.args.relations.now c.if-prices.false (says_fail c.if-not-sound.true-raw c.sound.ensures))
+    (λ c κs. let q = (says_pass c.if-not-sound.false-raw c.sound.ensures).good.sizes in omega arith)
+    (λ c κs. let q = (says_pass c.if-not-sound.false-raw c.sound.ensures).good.sizes in omega arith)
     (λ c. search rules)
-    (λ c. let l = few_bits c.before.before.before.before.before.before.before.before.before.before.args.words.now
-    (says_pass c.before.before.if2.false c.before.before.before.sound.ensures) c.header-word2.ensures in omega arith)
-    (λ c. fare_work c.before.before.before.before.before.before.before.before.before.before.before.args.a c.before.before.before.before.before.before.before.before.before.before.before.args.b c.before.before.before.before.before.before.before.before.before.before.before.args.words.now c.before.before.before.before.before.before.before.before.before.before.before.args.prices.now c.before.before.before.before.before.before.before.before.before.before.before.args.work.now c.before.before.before.before.before.before.before.before.before.before.before.args.states.now c.before.before.before.before.before.before.before.before.before.before.before.args.relations.now c.before.before.before.before.before.if1.false (says_pass c.before.before.before.if2.false c.before.before.before.before.sound.ensures) (work_short c.before.before.before.before.before.before.before.before.before.before.before.args.words.now (says_pass c.before.before.before.if2.false c.before.before.before.before.sound.ensures) c.before.header-word2.ensures c.if3.true))
-    (λ c. fare_range c.before.before.before.before.before.before.before.before.before.before.before.before.args.a c.before.before.before.before.before.before.before.before.before.before.before.before.args.b c.before.before.before.before.before.before.before.before.before.before.before.before.args.words.now c.before.before.before.before.before.before.before.before.before.before.before.before.args.prices.now c.before.before.before.before.before.before.before.before.before.before.before.before.args.work.now c.before.before.before.before.before.before.before.before.before.before.before.before.args.states.now c.before.before.before.before.before.before.before.before.before.before.before.before.args.relations.now c.before.before.before.before.before.before.if1.false (says_pass c.before.before.before.before.if2.false c.before.before.before.before.before.sound.ensures) (work_long c.before.before.before.before.before.before.before.before.before.before.before.before.args.words.now (says_pass c.before.before.before.before.if2.false c.before.before.before.before.before.sound.ensures) c.before.before.header-word2.ensures
-    c.before.if3.false) (λ r. omega (arith, r.first, c.if4.true)))
-    (λ c. fare_range c.before.before.before.before.before.before.before.before.before.before.before.before.before.args.a
-    c.before.before.before.before.before.before.before.before.before.before.before.before.before.args.b c.before.before.before.before.before.before.before.before.before.before.before.before.before.args.words.now c.before.before.before.before.before.before.before.before.before.before.before.before.before.args.prices.now c.before.before.before.before.before.before.before.before.before.before.before.before.before.args.work.now c.before.before.before.before.before.before.before.before.before.before.before.before.before.args.states.now c.before.before.before.before.before.before.before.before.before.before.before.before.before.args.relations.now c.before.before.before.before.before.before.before.if1.false (says_pass c.before.before.before.before.before.if2.false c.before.before.before.before.before.before.sound.ensures) (work_long c.before.before.before.before.before.before.before.before.before.before.before.before.before.args.words.now (says_pass c.before.before.before.before.before.if2.false c.before.before.before.before.before.before.sound.ensures) c.before.before.before.header-word2.ensures c.before.before.if3.false) (λ r. omega (arith, r.second, c.if5.true)))
+    (λ c. let l = few_bits c.args.words.now
+    (says_pass c.if-not-sound.false-raw c.sound.ensures) c.header_word-bits.ensures in omega arith)
+    (λ c. fare_work c.args.a c.args.b c.args.words.now c.args.prices.now c.args.work.now c.args.states.now c.args.relations.now c.if-prices.false (says_pass c.if-not-sound.false-raw c.sound.ensures) (work_short c.args.words.now (says_pass c.if-not-sound.false-raw c.sound.ensures) c.header_word-bits.ensures c.if-work-all.true))
+    (λ c. fare_range c.args.a c.args.b c.args.words.now c.args.prices.now c.args.work.now c.args.states.now c.args.relations.now c.if-prices.false (says_pass c.if-not-sound.false-raw c.sound.ensures) (work_long c.args.words.now (says_pass c.if-not-sound.false-raw c.sound.ensures) c.header_word-bits.ensures
+    c.if-work-all.false) (λ r. omega (arith, r.first, c.if-a-ge-REGISTERS.true)))
+    (λ c. fare_range c.args.a
+    c.args.b c.args.words.now c.args.prices.now c.args.work.now c.args.states.now c.args.relations.now c.if-prices.false (says_pass c.if-not-sound.false-raw c.sound.ensures) (work_long c.args.words.now (says_pass c.if-not-sound.false-raw c.sound.ensures) c.header_word-bits.ensures c.if-work-all.false) (λ r. omega (arith, r.second, c.if-b-ge-REGISTERS.true)))
     (λ c. search rules)
-    (λ c κs. let g = c.before.if4.false in let q = (says_pass c.before.before.before.before.before.if2.false c.before.before.before.before.before.before.sound.ensures).good.sizes in omega arith)
+    (λ c κs. let g = c.if-a-ge-REGISTERS.false in let q = (says_pass c.if-not-sound.false-raw c.sound.ensures).good.sizes in omega arith)
     (λ c. search rules)
-    (λ c κs. let g = c.before.if5.false in let q = (says_pass c.before.before.before.before.before.before.if2.false c.before.before.before.before.before.before.before.sound.ensures).good.sizes in omega arith)
-    (λ c. fare_first c.before.before.before.before.before.before.before.before.before.before.before.before.before.before.before.before.args.a c.before.before.before.before.before.before.before.before.before.before.before.before.before.before.before.before.args.b c.before.before.before.before.before.before.before.before.before.before.before.before.before.before.before.before.args.words.now c.before.before.before.before.before.before.before.before.before.before.before.before.before.before.before.before.args.prices.now c.before.before.before.before.before.before.before.before.before.before.before.before.before.before.before.before.args.work.now c.before.before.before.before.before.before.before.before.before.before.before.before.before.before.before.before.args.states.now c.before.before.before.before.before.before.before.before.before.before.before.before.before.before.before.before.args.relations.now c.before.before.before.before.before.before.before.before.before.before.if1.false (says_pass c.before.before.before.before.before.before.before.before.if2.false c.before.before.before.before.before.before.before.before.before.sound.ensures) (work_long c.before.before.before.before.before.before.before.before.before.before.before.before.before.before.before.before.args.words.now (says_pass c.before.before.before.before.before.before.before.before.if2.false c.before.before.before.before.before.before.before.before.before.sound.ensures) c.before.before.before.before.before.before.header-word2.ensures c.before.before.before.before.before.if3.false) (record {
-      first = c.before.before.before.before.if4.false;
-      second = c.before.before.before.if5.false;
-    }) c.before.before.header-word3.ensures c.if6.true)
-    (λ c. fare_second c.before.before.before.before.before.before.before.before.before.before.before.before.before.before.before.before.before.args.a c.before.before.before.before.before.before.before.before.before.before.before.before.before.before.before.before.before.args.b c.before.before.before.before.before.before.before.before.before.before.before.before.before.before.before.before.before.args.words.now c.before.before.before.before.before.before.before.before.before.before.before.before.before.before.before.before.before.args.prices.now c.before.before.before.before.before.before.before.before.before.before.before.before.before.before.before.before.before.args.work.now c.before.before.before.before.before.before.before.before.before.before.before.before.before.before.before.before.before.args.states.now c.before.before.before.before.before.before.before.before.before.before.before.before.before.before.before.before.before.args.relations.now c.before.before.before.before.before.before.before.before.before.before.before.if1.false (says_pass c.before.before.before.before.before.before.before.before.before.if2.false
-    c.before.before.before.before.before.before.before.before.before.before.sound.ensures) (work_long c.before.before.before.before.before.before.before.before.before.before.before.before.before.before.before.before.before.args.words.now (says_pass c.before.before.before.before.before.before.before.before.before.if2.false c.before.before.before.before.before.before.before.before.before.before.sound.ensures) c.before.before.before.before.before.before.before.header-word2.ensures c.before.before.before.before.before.before.if3.false) (record {
-      first = c.before.before.before.before.before.if4.false;
-      second = c.before.before.before.before.if5.false;
-    }) c.before.before.header-word4.ensures c.if7.true)
+    (λ c κs. let g = c.if-b-ge-REGISTERS.false in let q = (says_pass c.if-not-sound.false-raw c.sound.ensures).good.sizes in omega arith)
+    (λ c. fare_first c.args.a c.args.b c.args.words.now c.args.prices.now c.args.work.now c.args.states.now c.args.relations.now c.if-prices.false (says_pass c.if-not-sound.false-raw c.sound.ensures) (work_long c.args.words.now (says_pass c.if-not-sound.false-raw c.sound.ensures) c.header_word-bits.ensures c.if-work-all.false) (record {
+      first = c.if-a-ge-REGISTERS.false;
+      second = c.if-b-ge-REGISTERS.false;
+    }) c.header_word-x.ensures c.if-x-eq0.true)
+    (λ c. fare_second c.args.a c.args.b c.args.words.now c.args.prices.now c.args.work.now c.args.states.now c.args.relations.now c.if-prices.false (says_pass c.if-not-sound.false-raw
+    c.sound.ensures) (work_long c.args.words.now (says_pass c.if-not-sound.false-raw c.sound.ensures) c.header_word-bits.ensures c.if-work-all.false) (record {
+      first = c.if-a-ge-REGISTERS.false;
+      second = c.if-b-ge-REGISTERS.false;
+    }) c.header_word-y.ensures c.if-y-eq0.true)
     (λ c. search rules)
-    (λ c. sym (length-take-le _ c.before.before.before.before.before.before.before.before.before.before.before.before.before.before.before.before.before.before.args.work.now c.before.before.before.before.before.before.before.if3.false))
+    (λ c. sym (length-take-le _ c.args.work.now c.if-work-all.false))
     (λ c. search rules)
     (λ c. search rules)
     (λ c κs. (
-      call_asks c.before.before.before.before.before.before.before.before.before.before.before.before.before.before.before.before.before.before.before.before.args.words.now c.before.before.before.before.before.before.before.before.before.before.before.before.before.before.before.before.before.before.before.before.args.prices.now c.before.before.before.before.before.before.before.before.before.before.before.before.before.before.before.before.before.before.before.before.args.work.now c.before.before.before.before.before.before.before.before.before.before.before.before.before.before.if1.false (says_pass c.before.before.before.before.before.before.before.before.before.before.before.before.if2.false c.before.before.before.before.before.before.before.before.before.before.before.before.before.sound.ensures) (work_long c.before.before.before.before.before.before.before.before.before.before.before.before.before.before.before.before.before.before.before.before.args.words.now (says_pass c.before.before.before.before.before.before.before.before.before.before.before.before.if2.false c.before.before.before.before.before.before.before.before.before.before.before.before.before.sound.ensures) c.before.before.before.before.before.before.before.before.before.before.header-word2.ensures c.before.before.before.before.before.before.before.before.before.if3.false) (record {
-        first = c.before.before.before.before.before.before.before.before.if4.false;
-        second = c.before.before.before.before.before.before.before.if5.false;
-      }) c.before.before.before.before.before.before.before.before.before.before.before.header-word.ensures c.before.before.before.before.before.before.before.before.before.before.header-word2.ensures c.before.before.before.before.before.before.header-word3.ensures c.before.before.before.before.before.header-word4.ensures c.before.before.before.before.if6.false c.before.before.before.if7.false _
-          (states-eq c.before.before.before.before.before.before.before.before.before.before.before.before.before.before.before.before.before.before.before.before.args.words.now (says_pass c.before.before.before.before.before.before.before.before.before.before.before.before.if2.false c.before.before.before.before.before.before.before.before.before.before.before.before.before.sound.ensures) c.before.before.before.before.before.before.before.before.before.before.header-word2.ensures),
-      let q = (says_pass c.before.before.before.before.before.before.before.before.before.before.before.before.if2.false c.before.before.before.before.before.before.before.before.before.before.before.before.before.sound.ensures).good.sizes in omega arith,
+      call_asks c.args.words.now c.args.prices.now c.args.work.now c.if-prices.false (says_pass c.if-not-sound.false-raw c.sound.ensures) (work_long c.args.words.now (says_pass c.if-not-sound.false-raw c.sound.ensures) c.header_word-bits.ensures c.if-work-all.false) (record {
+        first = c.if-a-ge-REGISTERS.false;
+        second = c.if-b-ge-REGISTERS.false;
+      }) c.header_word-rows.ensures c.header_word-bits.ensures c.header_word-x.ensures c.header_word-y.ensures c.if-x-eq0.false c.if-y-eq0.false _
+          (states-eq c.args.words.now (says_pass c.if-not-sound.false-raw c.sound.ensures) c.header_word-bits.ensures),
+      let q = (says_pass c.if-not-sound.false-raw c.sound.ensures).good.sizes in omega arith,
     ))
     (λ c. search rules)
     (λ c. search rules)
     (λ c. search rules)
-    (λ c. fare_ends c.before.before.before.before.before.before.before.before.before.before.before.before.before.before.before.before.before.before.before.before.before.before.before.before.before.before.before.args.words.now c.before.before.before.before.before.before.before.before.before.before.before.before.before.before.before.before.before.before.before.before.before.before.before.before.before.before.before.args.prices.now c.before.before.before.before.before.before.before.before.before.before.before.before.before.before.before.before.before.before.before.before.before.before.before.before.before.before.before.args.work.now c.before.before.before.before.before.before.before.before.before.before.before.before.before.before.before.before.before.before.before.before.before.if1.false
-    (says_pass c.before.before.before.before.before.before.before.before.before.before.before.before.before.before.before.before.before.before.before.if2.false c.before.before.before.before.before.before.before.before.before.before.before.before.before.before.before.before.before.before.before.before.sound.ensures) (work_long c.before.before.before.before.before.before.before.before.before.before.before.before.before.before.before.before.before.before.before.before.before.before.before.before.before.before.before.args.words.now (says_pass c.before.before.before.before.before.before.before.before.before.before.before.before.before.before.before.before.before.before.before.if2.false c.before.before.before.before.before.before.before.before.before.before.before.before.before.before.before.before.before.before.before.before.sound.ensures) c.before.before.before.before.before.before.before.before.before.before.before.before.before.before.before.before.before.header-word2.ensures c.before.before.before.before.before.before.before.before.before.before.before.before.before.before.before.before.if3.false) (record {
-      first = c.before.before.before.before.before.before.before.before.before.before.before.before.before.before.before.if4.false;
+    (λ c. fare_ends c.args.words.now c.args.prices.now c.args.work.now c.if-prices.false
+    (says_pass c.if-not-sound.false-raw c.sound.ensures) (work_long c.args.words.now (says_pass c.if-not-sound.false-raw c.sound.ensures) c.header_word-bits.ensures c.if-work-all.false) (record {
+      first = c.if-a-ge-REGISTERS.false;
       second =
-          c.before.before.before.before.before.before.before.before.before.before.before.before.before.before.if5.false;
-    }) c.before.before.before.before.before.before.before.before.before.before.before.before.before.before.before.before.before.before.header-word.ensures c.before.before.before.before.before.before.before.before.before.before.before.before.before.before.before.before.before.header-word2.ensures c.before.before.before.before.before.before.before.before.before.before.before.before.before.header-word3.ensures c.before.before.before.before.before.before.before.before.before.before.before.before.header-word4.ensures c.before.before.before.before.before.before.before.before.before.before.before.if6.false c.before.before.before.before.before.before.before.before.before.before.if7.false
-    (states-eq c.before.before.before.before.before.before.before.before.before.before.before.before.before.before.before.before.before.before.before.before.before.before.before.before.before.before.before.args.words.now (says_pass c.before.before.before.before.before.before.before.before.before.before.before.before.before.before.before.before.before.before.before.if2.false c.before.before.before.before.before.before.before.before.before.before.before.before.before.before.before.before.before.before.before.before.sound.ensures) c.before.before.before.before.before.before.before.before.before.before.before.before.before.before.before.before.before.header-word2.ensures) c.before.before.before.before.before.before.between.ensures))
+          c.if-b-ge-REGISTERS.false;
+    }) c.header_word-rows.ensures c.header_word-bits.ensures c.header_word-x.ensures c.header_word-y.ensures c.if-x-eq0.false c.if-y-eq0.false
+    (states-eq c.args.words.now (says_pass c.if-not-sound.false-raw c.sound.ensures) c.header_word-bits.ensures) c.between.ensures))

@@ -15,24 +15,24 @@ is_exact_spec =
     (λ c κs. search rules)
     (λ c κs. search rules)
     (λ c κs. search rules)
-    (λ c. exact-empty c.before.before.before.before.before.before.before.before.requires.0 _ _ _
-    c.before.before.before.before.header-word.ensures c.if1.true)
-    (λ c. exact_cheap c.before.before.before.before.before.before.before.before.before.requires.0 _ _ _
-    c.before.before.before.before.mark_of.ensures c.before.before.step-cost.ensures c.if2.true)
+    (λ c. exact-empty c.requires.0 _ _ _
+    c.header_word-root.ensures c.if-root-eq0.true)
+    (λ c. exact_cheap c.requires.0 _ _ _
+    c.mark_of-from.ensures c.step_cost-cost.ensures c.if-from-cost.true)
     (λ c. search rules)
-    (λ c. exact-other c.before.before.before.before.before.before.before.before.before.before.requires.0 _ _ _
-    c.before.before.before.before.before.mark_of.ensures c.before.before.before.before.mark-of2.ensures
-    c.before.before.before.step-cost.ensures c.if3.true)
+    (λ c. exact-other c.requires.0 _ _ _
+    c.mark_of-from.ensures c.mark_of-to.ensures
+    c.step_cost-cost.ensures c.if-to-from.true)
     (λ c. search rules)
-    (λ c κs. exact-asks c.before.before.before.before.before.before.before.before.before.before.requires.0 _ _ _
-    c.before.before.before.before.before.before.before.before.before.before.requires.3
-    c.before.before.before.before.before.before.before.before.before.before.requires.2
-    c.before.before.before.before.before.before.header-word.ensures c.before.before.if1.false
-    c.before.before.before.before.before.mark_of.ensures c.before.before.before.before.mark-of2.ensures
-    c.before.before.before.step-cost.ensures c.before.if2.false c.if3.false)
-    (λ c. exact-says c.before.before.before.before.before.before.before.before.before.before.before.requires.0 _ _ _
-    c.before.before.before.before.before.before.before.before.before.before.before.requires.3
-    c.before.before.before.before.before.before.before.before.before.before.before.requires.2
-    c.before.before.before.before.before.before.before.header-word.ensures c.before.before.before.if1.false
-    c.before.before.before.before.before.before.mark_of.ensures c.before.before.before.before.before.mark-of2.ensures
-    c.before.before.before.before.step-cost.ensures c.before.before.if2.false c.before.if3.false c.holds.ensures))
+    (λ c κs. exact-asks c.requires.0 _ _ _
+    c.requires.3
+    c.requires.2
+    c.header_word-root.ensures c.if-root-eq0.false
+    c.mark_of-from.ensures c.mark_of-to.ensures
+    c.step_cost-cost.ensures c.if-from-cost.false c.if-to-from.false)
+    (λ c. exact-says c.requires.0 _ _ _
+    c.requires.3
+    c.requires.2
+    c.header_word-root.ensures c.if-root-eq0.false
+    c.mark_of-from.ensures c.mark_of-to.ensures
+    c.step_cost-cost.ensures c.if-from-cost.false c.if-to-from.false c.holds.ensures))

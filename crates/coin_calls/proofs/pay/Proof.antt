@@ -15,30 +15,30 @@ pub pay_spec : {M : Type 1} → statement M
 pay_spec =
     tie.close
     (tie.spec
-    (λ c κs. first_in_lem c.before.before.before.before.before.requires.0)
-    (λ c. let y = mark-some c.before.before.before.before.before.before.requires.0 c.mark_of.ensures in omega arith)
-    (λ c. let l = credits_small c.before.before.before.before.before.before.requires.0 c.mark_of.ensures in
+    (λ c κs. first_in_lem c.requires.0)
+    (λ c. let y = mark-some c.requires.0 c.mark_of-cost.ensures in omega arith)
+    (λ c. let l = credits_small c.requires.0 c.mark_of-cost.ensures in
     record { fits = omega arith })
     (λ c. search rules)
     (λ c. search rules)
-    (λ c. pay-short c.before.before.before.before.before.before.before.requires.0 c.before.mark_of.ensures (inl c.if1.true))
+    (λ c. pay-short c.requires.0 c.mark_of-cost.ensures (inl c.if-states-steps.true))
     (λ c. search rules)
-    (λ c. pay-short c.before.before.before.before.before.before.before.before.requires.0 c.before.before.mark_of.ensures
-    (inr c.if2.true))
+    (λ c. pay-short c.requires.0 c.mark_of-cost.ensures
+    (inr c.if-relations-steps.true))
     (λ c κs. (
-      write_asks c.before.before.before.before.before.before.before.before.before.before.requires.0
-          c.before.before.before.before.mark_of.ensures c.before.before.before.if1.false c.before.before.if2.false,
-      c.before.before.before.before.before.before.before.before.before.before.requires.1,
+      write_asks c.requires.0
+          c.mark_of-cost.ensures c.if-states-steps.false c.if-relations-steps.false,
+      c.requires.1,
     ))
     (λ c κs. search rules)
     (λ c. let l =
     steps-small
-    c.before.before.before.before.before.before.before.before.before.before.before.before.before.before.before.before.requires.0 c.before.before.before.before.before.before.before.before.before.before.mark_of.ensures in
+    c.requires.0 c.mark_of-cost.ensures in
     record { fits = omega arith })
     (λ c. search rules)
     (λ c. search rules)
     (λ c. pay-paid
-    c.before.before.before.before.before.before.before.before.before.before.before.before.before.before.before.before.requires.0 c.before.before.before.before.before.before.before.before.before.before.mark_of.ensures
-    c.before.before.before.before.before.before.before.before.before.if1.false
-    c.before.before.before.before.before.before.before.before.if2.false c.charge.ensures
-    c.before.before.before.before.before.write-run.ensures))
+    c.requires.0 c.mark_of-cost.ensures
+    c.if-states-steps.false
+    c.if-relations-steps.false c.charge.ensures
+    c.write_run.ensures))

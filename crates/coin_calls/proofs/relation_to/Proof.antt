@@ -9,10 +9,10 @@ use Rattle.coin_calls.proofs.relation_to.Reads as reads
 use Rattle.coin_calls.proofs.relation_to.Lts as lts
 use Rattle.coin_calls.proofs.is_exact.Reads as is-exact-reads
 
-abbrev invariant_loop : tie.invariant_loop
+abbrev invariant_loop : tie.invariant-loop-r
 invariant_loop words rows bits prices work s t r₀ r = (r ≤ 8) × Passed (view rows words) bits prices work s t r
 
-abbrev decreases_loop : tie.decreases_loop
+abbrev decreases_loop : tie.decreases-loop-r
 decreases_loop words rows bits prices work s t r₀ r = 8 - r
 
 pub relation_to_spec : {M : Type 1} → statement M
@@ -23,15 +23,15 @@ relation_to_spec =
     decreases_loop
     (λ c. (omega arith, passed_start))
     (λ c κs. (
-      c.before.before.before.before.before.requires.0,
-      c.before.before.before.before.before.requires.1,
-      c.before.before.before.before.before.requires.2,
-      c.loop-test.true,
-      c.before.before.before.before.before.requires.3,
+      c.requires.0,
+      c.requires.1,
+      c.requires.2,
+      c.loop-r-test.true,
+      c.requires.3,
     ))
-    (λ c. relation-found c.before.before.loop-test.true c.before.is-exact.ensures c.if1.true)
-    (λ c. let t = c.before.before.loop-test.true in record { fits = omega arith })
-    (λ c. let t = c.before.before.loop-test.true in omega arith)
-    (λ c. let t = c.before.before.loop-test.true in
-    (omega arith, passed-next c.before.before.before.loop.invariant.1 c.before.is-exact.ensures c.if1.false))
-    (λ c. passed-all c.before.loop.invariant.1 c.loop-test.false))
+    (λ c. relation-found c.loop-r-test.true c.is_exact.ensures c.if-is_exact.true)
+    (λ c. let t = c.loop-r-test.true in record { fits = omega arith })
+    (λ c. let t = c.loop-r-test.true in omega arith)
+    (λ c. let t = c.loop-r-test.true in
+    (omega arith, passed-next c.loop-r.invariant.1 c.is_exact.ensures c.if-is_exact.false))
+    (λ c. passed-all c.loop-r.invariant.1 c.loop-r-test.false))

@@ -14,11 +14,11 @@ use Rattle.coin_calls.proofs.step_below.Lts as lts
 use Rattle.coin_calls.proofs.relation_to.Reads as relation-to-reads
 use Rattle.coin_search.proofs.state_at.Reads as state-at-reads
 
-abbrev invariant_loop : tie.invariant_loop
+abbrev invariant_loop : tie.invariant-loop-i
 invariant_loop words rows bits prices work s from states i₀ i =
     (states ≡ 2 ^ bits) × (i ≤ from) × Ahead (view rows words) bits prices work s i
 
-abbrev decreases_loop : tie.decreases_loop
+abbrev decreases_loop : tie.decreases-loop-i
 decreases_loop words rows bits prices work s from states i₀ i = i
 
 pub step_below_spec : {M : Type 1} → statement M
@@ -27,44 +27,44 @@ step_below_spec =
     (tie.spec
     invariant_loop
     decreases_loop
-    (λ c. let b = c.before.before.before.requires.0.small in omega arith)
+    (λ c. let b = c.requires.0.small in omega arith)
     (λ c. (
-      power_is c.before.before.before.args.bits c.before.before.before.requires.0.small,
+      power_is c.args.bits c.requires.0.small,
       omega arith,
-      c.before.before.before.requires.3,
+      c.requires.3,
     ))
     (λ c. search rules)
-    (λ c κs. let t = c.loop-test.true in
-    let l = c.before.loop.invariant.1 in
-    let p = c.before.before.before.before.before.requires.2 in
-    let h = c.before.before.before.before.before.requires.0.room in omega arith)
+    (λ c κs. let t = c.loop-i-test.true in
+    let l = c.loop-i.invariant.1 in
+    let p = c.requires.2 in
+    let h = c.requires.0.room in omega arith)
     (λ c κs. (
-      c.before.before.before.before.before.before.before.requires.0,
-      c.before.before.before.before.before.before.before.requires.1,
-      let e = c.before.before.before.loop.invariant.0 in
-          let l = c.if1.true in omega arith,
-      c.before.before.before.before.before.before.before.requires.4,
+      c.requires.0,
+      c.requires.1,
+      let e = c.loop-i.invariant.0 in
+          let l = c.if-t-states.true in omega arith,
+      c.requires.4,
     ))
     (λ c. record {
-      step = c.before.relation-to.ensures.found c.if2.true;
-      before = let t = c.before.before.before.before.loop-test.true in
-          let l = c.before.before.before.before.before.loop.invariant.1 in omega arith;
-      stands = sym c.before.before.before.state-at.ensures;
+      step = c.relation_to-r.ensures.found c.if-r-ne-RELATIONS.true;
+      before = let t = c.loop-i-test.true in
+          let l = c.loop-i.invariant.1 in omega arith;
+      stands = sym c.state_at-t.ensures;
     })
-    (λ c. let t = c.before.before.before.before.loop-test.true in omega arith)
-    (λ c. let t = c.before.before.before.before.loop-test.true in
-    let l = c.before.before.before.before.before.loop.invariant.1 in (
-      c.before.before.before.before.before.loop.invariant.0,
+    (λ c. let t = c.loop-i-test.true in omega arith)
+    (λ c. let t = c.loop-i-test.true in
+    let l = c.loop-i.invariant.1 in (
+      c.loop-i.invariant.0,
       omega arith,
-      ahead_none t c.before.before.before.before.before.loop.invariant.2 c.before.before.before.state-at.ensures
-          c.before.relation-to.ensures c.if2.false,
+      ahead_none t c.loop-i.invariant.2 c.state_at-t.ensures
+          c.relation_to-r.ensures c.if-r-ne-RELATIONS.false,
     ))
-    (λ c. let t = c.before.before.loop-test.true in omega arith)
-    (λ c. let t = c.before.before.loop-test.true in
-    let l = c.before.before.before.loop.invariant.1 in (
-      c.before.before.before.loop.invariant.0,
+    (λ c. let t = c.loop-i-test.true in omega arith)
+    (λ c. let t = c.loop-i-test.true in
+    let l = c.loop-i.invariant.1 in (
+      c.loop-i.invariant.0,
       omega arith,
-      ahead_out t c.before.before.before.loop.invariant.2 c.before.state-at.ensures c.before.before.before.loop.invariant.0
-          c.if1.false,
+      ahead_out t c.loop-i.invariant.2 c.state_at-t.ensures c.loop-i.invariant.0
+          c.if-t-states.false,
     ))
-    (λ c. absurd (ahead_not c.before.loop.invariant.2 c.loop-test.false)))
+    (λ c. absurd (ahead_not c.loop-i.invariant.2 c.loop-i-test.false)))

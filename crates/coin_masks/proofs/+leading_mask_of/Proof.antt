@@ -62,34 +62,34 @@ pub +leading_mask_of_spec : {M : Type 1} → statement M
     )
     (leading_at t)
     leading.Post
-    (λ c κs. c.before.before.requires.1.0.arrow)
+    (λ c κs. c.requires.1.0.arrow)
     (λ c κs. let c1 = c.before.before.before in c1.requires.1.0.arrow)
-    (λ c κs. let c1 = c.before.before.before in let c2 = c1.before.before.before in leading-asks c.before.before.follow-at.ensures c2.requires.1.0.arrow c2.requires.1.1 c2.requires.1.0.small c2.requires.1.0.masked c1.level-of.ensures c2.requires.0)
-    (λ c. c.before.before.mask-of.auto.1.1.0)
-    (λ c. let c1 = c.before.before.before.before in let c2 = c1.before in mask-zero c2.follow-at.ensures (zero-below _
-    c1.if1.true) c.before.before.mask-of.ensures)
+    (λ c κs. let c1 = c.before.before.before in let c2 = c1.before.before.before in leading-asks c.follow_at-y.ensures c2.requires.1.0.arrow c2.requires.1.1 c2.requires.1.0.small c2.requires.1.0.masked c1.level_of-level.ensures c2.requires.0)
+    (λ c. c.mask_of.auto.notes)
+    (λ c. let c1 = c.before.before.before.before in let c2 = c1.before in mask-zero c2.follow_at-y.ensures (zero-below _
+    c1.if-p-low.true) c.mask_of.ensures)
     (λ c κs. let c1 = c.before.before.before in let c2 = c1.before in let c3 = c2.before.before.before in leading-asks
-    c1.follow-at.ensures c3.requires.1.0.arrow c3.requires.1.1 c3.requires.1.0.small c3.requires.1.0.masked c2.level-of.ensures c3.requires.0)
-    (λ c. c.before.before.mask-of2.auto.1.1.0)
-    (λ c. let c1 = c.before.before.before.before in let c2 = c1.before in let c3 = c2.before in mask-zero c3.follow-at.ensures (zero-above _ c2.if1.false c1.if2.true) c.before.before.mask-of2.ensures)
+    c1.follow_at-y.ensures c3.requires.1.0.arrow c3.requires.1.1 c3.requires.1.0.small c3.requires.1.0.masked c2.level_of-level.ensures c3.requires.0)
+    (λ c. c.mask_of-then-k-gt5.auto.notes)
+    (λ c. let c1 = c.before.before.before.before in let c2 = c1.before in let c3 = c2.before in mask-zero c3.follow_at-y.ensures (zero-above _ c2.if-p-low.false c1.if-k-gt5.true) c.mask_of-then-k-gt5.ensures)
     (λ c κs. let c1 = c.before.before.before.before.before.before in c1.requires.1.0.arrow)
     (λ c κs. let c1 = c.before.before.before.before.before in let c2 = c1.before in let c3 = c2.before.before.before in
-    leading-asks c1.follow-at.ensures c3.requires.1.0.arrow c3.requires.1.1 c3.requires.1.0.small c3.requires.1.0.masked
-    c2.level-of.ensures c3.requires.0)
-    (λ c κs. let c1 = c.before.before.before in let c2 = c1.before.before.before in let c3 = c2.before.before.before.before in let c4 = c3.before.before.before in leading-asks c2.follow-at2.ensures c4.pre.1.0.arrow c4.pre.1.1 c4.pre.1.0.small c1.mask-of3.ensures.masked c3.level-of.ensures c4.pre.0)
-    (λ c κs. let c1 = c.before.before.before.before.before.before.before.before.before.before in let b = c1.if2.false
+    leading-asks c1.follow_at-y.ensures c3.requires.1.0.arrow c3.requires.1.1 c3.requires.1.0.small c3.requires.1.0.masked
+    c2.level_of-level.ensures c3.requires.0)
+    (λ c κs. let c1 = c.before.before.before in let c2 = c1.before.before.before in let c3 = c2.before.before.before.before in let c4 = c3.before.before.before in leading-asks c2.follow_at-z.ensures c4.pre.1.0.arrow c4.pre.1.1 c4.pre.1.0.small c1.mask_of-a.ensures.masked c3.level_of-level.ensures c4.pre.0)
+    (λ c κs. let c1 = c.before.before.before.before.before.before.before.before.before.before in let b = c1.if-k-gt5.false
     in omega arith)
-    (λ c. let c1 = c.before.before.before in let c2 = c1.before.before.before.before in c1.mask-of4.auto.1.1.0 ∙ c2.mask-of3.auto.1.1.0)
+    (λ c. let c1 = c.before.before.before in let c2 = c1.before.before.before.before in c1.mask_of-b.auto.notes ∙ c2.mask_of-a.auto.notes)
     (λ c. let c1 = c.before.before.before in let c2 = c1.before.before.before.before in let c3 = c2.before.before in
-    let c4 = c3.before in let c5 = c4.before.before in let c6 = c5.before in mask-now c6.follow-at.ensures c4.follow-at2.ensures c5.if1.false c3.if3.true c2.mask-of3.ensures c1.mask-of4.ensures c.choose-bits.ensures)
-    (λ c κs. let b = c.before.before.if2.false in omega arith)
-    (λ c κs. let c1 = c.before.before.before in let b = c1.if2.false in omega arith)
-    (λ c κs. let c1 = c.before.before.before.before.before.before.before in let c2 = c1.before in let c3 = c2.before.before.before in leading-asks c1.follow-at.ensures c3.pre.1.0.arrow c3.pre.1.1 c3.pre.1.0.small c3.pre.1.0.masked c2.level-of.ensures c3.pre.0)
-    (λ c κs. let c1 = c.before.before.before in let c2 = c1.before.before.before.before.before in let c3 = c2.before.before.before.before in let c4 = c3.before.before.before in leading-asks c2.follow-at2.ensures c4.pre.1.0.arrow c4.pre.1.1 c4.pre.1.0.small c1.mask-of5.ensures.masked c3.level-of.ensures c4.pre.0)
-    (λ c. let c1 = c.before.before.before.before.before.before in c.before.before.mask-of6.auto.1.1.0 ∙ c1.mask-of5.auto.1.1.0)
+    let c4 = c3.before in let c5 = c4.before.before in let c6 = c5.before in mask-now c6.follow_at-y.ensures c4.follow_at-z.ensures c5.if-p-low.false c3.if-level-eq0.true c2.mask_of-a.ensures c1.mask_of-b.ensures c.choose_bits.ensures)
+    (λ c κs. let b = c.if-k-gt5.false in omega arith)
+    (λ c κs. let c1 = c.before.before.before in let b = c1.if-k-gt5.false in omega arith)
+    (λ c κs. let c1 = c.before.before.before.before.before.before.before in let c2 = c1.before in let c3 = c2.before.before.before in leading-asks c1.follow_at-y.ensures c3.pre.1.0.arrow c3.pre.1.1 c3.pre.1.0.small c3.pre.1.0.masked c2.level_of-level.ensures c3.pre.0)
+    (λ c κs. let c1 = c.before.before.before in let c2 = c1.before.before.before.before.before in let c3 = c2.before.before.before.before in let c4 = c3.before.before.before in leading-asks c2.follow_at-z.ensures c4.pre.1.0.arrow c4.pre.1.1 c4.pre.1.0.small c1.mask_of-a-2.ensures.masked c3.level_of-level.ensures c4.pre.0)
+    (λ c. let c1 = c.before.before.before.before.before.before in c.mask_of-b-2.auto.notes ∙ c1.mask_of-a-2.auto.notes)
     (λ c. let c1 = c.before.before.before.before.before.before in let c2 = c1.before.before in let c3 = c2.before in
     let c4 = c3.before in let c5 = c4.before in let c6 = c5.before.before in let c7 = c6.before in let c8 = c7.before in
-    let c9 = c8.before.before.before in mask_next c7.follow-at.ensures c5.follow-at2.ensures c6.if1.false c9.requires.1.0.arrow c9.requires.1.1 c8.level-of.ensures c4.if3.false c3.low-goals.ensures c2.high-goals.ensures c1.mask-of5.ensures c.before.before.mask-of6.ensures))
+    let c9 = c8.before.before.before in mask_next c7.follow_at-y.ensures c5.follow_at-z.ensures c6.if-p-low.false c9.requires.1.0.arrow c9.requires.1.1 c8.level_of-level.ensures c4.if-level-eq0.false c3.low_goals-first.ensures c2.high_goals-second.ensures c1.mask_of-a-2.ensures c.mask_of-b-2.ensures))
     (λ t. mask-of-lts.spec (
       leading-below t,
       leading.Post,
@@ -98,9 +98,9 @@ pub +leading_mask_of_spec : {M : Type 1} → statement M
     )
     (mask_of-at t)
     mask-of.Post
-    (λ c. let c1 = c.before.before.before in mask-nothing c1.requires.1 c.if1.true)
-    (λ c. let c1 = c.before.before.before.before in mask-none c1.requires.1 c.if2.true)
-    (λ c. let c1 = c.before.before.before.before.before in mask-every c1.requires.1 c.if3.true c.before.if2.false
+    (λ c. let c1 = c.before.before.before in mask-nothing c1.requires.1 c.if-x-eq-NOTHING.true)
+    (λ c. let c1 = c.before.before.before.before in mask-none c1.requires.1 c.if-goals-eq0.true)
+    (λ c. let c1 = c.before.before.before.before.before in mask-every c1.requires.1 c.if-x-eq-EVERYTHING.true c.if-goals-eq0.false
     (omega arith))
     (λ c. search rules)
     (λ c. search rules)
@@ -113,12 +113,12 @@ pub +leading_mask_of_spec : {M : Type 1} → statement M
     (λ c. search rules)
     (λ c. let c1 = c.before.before.before.before.before.before.before.before.before.before in let s = c1.requires.1.masked.size in omega arith)
     (λ c. let c1 = c.before.before.before in let c2 = c1.before.before.before.before.before.before.before in mask-met
-    c2.requires.1 (bit_xor c2.args.x c2.args.goals % 409) (omega arith) c1.if4.true c.before.if5.true)
+    c2.requires.1 (bit_xor c2.args.x c2.args.goals % 409) (omega arith) c1.if-notes-place.true c.if-notes-there.true)
     (λ c κs. let c1 = c.before.before.before in let c2 = c1.before.before in let c3 = c2.before.before.before in (
       let e
           = c3.requires.0 in omega arith,
-      (c3.requires.1, row_of _ c2.if1.false c1.if3.false),
+      (c3.requires.1, row_of _ c2.if-x-eq-NOTHING.false c1.if-x-eq-EVERYTHING.false),
     ))
-    (λ c κs. let c1 = c.before.before.before in (omega arith, c1.leading.ensures.masked.size))
-    (λ c. let c1 = c.before.before.before.before.before.before in c.before.before.keep_mask.auto.0 ∙ c1.leading.auto.1.1.0)
-    (λ c. let c1 = c.before.before.before.before.before.before in let c2 = c1.before.before.before.before.before.before.before.before.before in mask-kept (bit_xor c2.args.x c2.args.goals % 409) (omega arith) c1.leading.ensures c.before.before.keep_mask.ensures))
+    (λ c κs. let c1 = c.before.before.before in (omega arith, c1.leading-mask.ensures.masked.size))
+    (λ c. let c1 = c.before.before.before.before.before.before in c.keep_mask.auto.notes ∙ c1.leading-mask.auto.notes)
+    (λ c. let c1 = c.before.before.before.before.before.before in let c2 = c1.before.before.before.before.before.before.before.before.before in mask-kept (bit_xor c2.args.x c2.args.goals % 409) (omega arith) c1.leading-mask.ensures c.keep_mask.ensures))

@@ -13,6 +13,6 @@ use Rattle.coin_masks.proofs.column.Reads as column-reads
 
 pub choose_bits_spec : {M : Type 1} → statement M
 choose_bits_spec = tie.close (tie.spec (λ c κs. search rules) (λ c. record {
-  cells = λ j l. ap (λ (z : ℕ). bit j (bit_xor c.before.args.low (bit_and (bit_xor c.before.args.low c.before.args.high) z))) c.column.ensures ∙
-      bit-choose _ _ _ j c.before.requires l;
+  cells = λ j l. ap (λ (z : ℕ). bit j (bit_xor c.args.low (bit_and (bit_xor c.args.low c.args.high) z))) c.column.ensures ∙
+      bit-choose _ _ _ j c.requires l;
 }))

@@ -8,4 +8,4 @@ use Rattle.coin_masks.proofs.column.Lts as lts
 
 pub column_spec : {M : Type 1} → statement M
 column_spec = tie.close (tie.spec (λ c. search rules) (λ c. search rules) (λ c. search rules) (λ c. search rules) (λ c.
-    search rules) (λ c. let r = c.match.rest in column-past _ r.0.0.0.0.1 r.0.0.0.1 r.0.0.1 r.0.1 r.1))
+    search rules) (λ c. let r = c.in_default.in_default-own.rest in column-past _ r.0.0.0.0.1 r.0.0.0.1 r.0.0.1 r.0.1 r.1))

@@ -14,5 +14,5 @@ high_goals_spec =
     (λ c κs. search rules)
     (λ c. search rules)
     (λ c. search rules)
-    (λ c. let (e, l) = shift-few c.before.args.k c.before.requires in omega arith)
-    (λ c. upper_is _ _ c.before.requires c.column.ensures (shift-few c.before.args.k c.before.requires).0 (omega arith)))
+    (λ c. let (e, l) = shift-few c.args.k c.requires in omega arith)
+    (λ c. upper_is _ _ c.requires c.column.ensures (shift-few c.args.k c.requires).0 (omega arith)))

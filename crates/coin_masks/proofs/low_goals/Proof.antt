@@ -11,4 +11,4 @@ low_goals_spec =
     tie.close
     (tie.spec
     (λ c κs. search rules)
-    (λ c. lower-is _ _ c.before.requires c.column.ensures))
+    (λ c. lower-is _ _ c.requires c.column.ensures))

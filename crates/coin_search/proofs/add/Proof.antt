@@ -12,4 +12,4 @@ pub add_spec : {M : Type 1} → statement M
 add_spec =
     tie.close
     (tie.spec (λ c κs. search rules) (λ c κs. search rules) (λ c. search rules) (λ c. search rules)
-    (λ c. (add_post c.before.before.before.before.before.before.put-mark.ensures c.before.before.put_state_lem.ensures, refl)))
+    (λ c. (add_post c.put_mark.ensures c.put_state.ensures, refl)))

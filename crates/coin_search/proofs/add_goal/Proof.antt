@@ -10,11 +10,11 @@ use Rattle.seek.proofs.holds.Reads as holds-reads
 pub add_goal_spec : {M : Type 1} → statement M
 add_goal_spec =
     tie.close
-    (tie.spec (λ c κs. c.before.before.requires.0)
-    (λ c κs. start-asks c.before.before.before.before.before.requires.1 c.before.before.before.before.before.requires.2)
+    (tie.spec (λ c κs. c.requires.0)
+    (λ c κs. start-asks c.requires.1 c.requires.2)
     (λ c. search rules)
-    (λ c. started-add c.before.before.before.before.before.before.before.before.requires.1
-    c.before.before.before.before.before.before.before.before.requires.2 c.before.before.before.before.before.holds.ensures
-    c.before.before.before.before.if1.true c.before.before.add.ensures)
-    (λ c. started_pass c.before.before.before.before.requires.1 c.before.before.before.before.requires.2 c.before.holds.ensures
-    c.if1.false))
+    (λ c. started-add c.requires.1
+    c.requires.2 c.holds.ensures
+    c.if-holds.true c.add.ensures)
+    (λ c. started_pass c.requires.1 c.requires.2 c.holds.ensures
+    c.if-holds.false))

@@ -11,10 +11,10 @@ pub admit_spec : {M : Type 1} → statement M
 admit_spec =
     tie.close
     (tie.spec
-    (λ c κs. let r = c.before.before.requires.0.room in let l = c.before.before.requires.1 in omega arith)
+    (λ c κs. let r = c.requires.0.room in let l = c.requires.1 in omega arith)
     (λ c. search rules)
-    (λ c. let c1 = c.before.before.before.before in admit-marked c1.requires.0 c.before.mark_of.ensures c.if1.true)
-    (λ c κs. let c1 = c.before.before.before.before.before in add-asks c1.requires.0 c1.requires.1 c.before.before.mark_of.ensures c.before.if1.false)
+    (λ c. let c1 = c.before.before.before.before in admit-marked c1.requires.0 c.mark_of.ensures c.if-mark_of-ne0.true)
+    (λ c κs. let c1 = c.before.before.before.before.before in add-asks c1.requires.0 c1.requires.1 c.mark_of.ensures c.if-mark_of-ne0.false)
     (λ c. search rules)
     (λ c. let c1 = c.before.before.before.before in let c2 = c1.before in let c3 = c2.before.before.before in admit-one
-    c3.requires.0 c3.requires.1 c2.mark_of.ensures c1.if1.false c.before.before.add.ensures))
+    c3.requires.0 c3.requires.1 c2.mark_of.ensures c1.if-mark_of-ne0.false c.add.ensures))

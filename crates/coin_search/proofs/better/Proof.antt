@@ -15,31 +15,31 @@ better_spec =
     (λ c. search rules)
     (λ c κs. search rules)
     (λ c. (
-      best_skip c.before.before.before.before.before.before.before.requires.0
-          c.before.before.before.before.before.before.before.requires.5 c.before.next-mark.ensures c.if1.true,
-      c.before.before.before.before.before.before.before.requires.6,
+      best_skip c.requires.0
+          c.requires.5 c.next_mark-m.ensures c.if-m-eq0.true,
+      c.requires.6,
     ))
     (λ c. (
-      best_first c.before.before.before.before.before.before.before.before.requires.0
-          c.before.before.before.before.before.before.before.before.requires.5 c.before.before.next-mark.ensures
-          c.before.if1.false c.if2.true,
-      let l = c.before.before.before.before.before.before.before.before.requires.0 in
+      best_first c.requires.0
+          c.requires.5 c.next_mark-m.ensures
+          c.if-m-eq0.false c.if-best-eq-RELATIONS.true,
+      let l = c.requires.0 in
           omega arith,
     ))
     (λ c. search rules)
     (λ c. search rules)
     (λ c κs. search rules)
     (λ c. (
-      best_less c.before.before.before.before.before.before.before.before.before.before.before.requires.0
-          c.before.before.before.before.before.before.before.before.before.before.before.requires.5
-          c.before.before.before.before.before.next-mark.ensures c.before.before.before.before.if1.false
-          c.before.before.before.if2.false c.before.next-mark2.ensures c.if3.true,
-      let l = c.before.before.before.before.before.before.before.before.before.before.before.requires.0 in omega arith,
+      best_less c.requires.0
+          c.requires.5
+          c.next_mark-m.ensures c.if-m-eq0.false
+          c.if-best-eq-RELATIONS.false c.next_mark-least.ensures c.if-m-least.true,
+      let l = c.requires.0 in omega arith,
     ))
     (λ c. (
-      best_keep c.before.before.before.before.before.before.before.before.before.before.before.requires.0
-          c.before.before.before.before.before.before.before.before.before.before.before.requires.5
-          c.before.before.before.before.before.next-mark.ensures c.before.before.before.before.if1.false
-          c.before.before.before.if2.false c.before.next-mark2.ensures (λ h. let q = c.if3.false in omega arith),
-      c.before.before.before.before.before.before.before.before.before.before.before.requires.6,
+      best_keep c.requires.0
+          c.requires.5
+          c.next_mark-m.ensures c.if-m-eq0.false
+          c.if-best-eq-RELATIONS.false c.next_mark-least.ensures (λ h. let q = c.if-m-least.false in omega arith),
+      c.requires.6,
     )))

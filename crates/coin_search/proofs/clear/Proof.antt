@@ -8,10 +8,10 @@ use Rattle.coin_search.proofs.clear.Tie as tie
 use Rattle.coin_search.proofs.clear.Reads as reads
 use Rattle.coin_search.proofs.clear.Lts as lts
 
-abbrev invariant_loop : tie.invariant_loop
+abbrev invariant_loop : tie.invariant-loop-s
 invariant_loop work₀ states s₀ work s = (s ≤ states) × Cleared work₀ work s
 
-abbrev decreases_loop : tie.decreases_loop
+abbrev decreases_loop : tie.decreases-loop-s
 decreases_loop work₀ states s₀ work s = states - s
 
 pub clear_spec : {M : Type 1} → statement M
@@ -21,15 +21,15 @@ clear_spec =
     invariant_loop
     decreases_loop
     (λ c. (omega arith, cleared-none _))
-    (λ c. let t = c.loop-test.true in let p = c.before.before.requires.0 in record { fits = omega arith })
-    (λ c. let t = c.loop-test.true in let p = c.before.before.requires.0 in omega arith)
-    (λ c. let t = c.loop-test.true in let p = c.before.before.requires.1 in let e = c.before.loop.invariant.1.size in omega arith)
-    (λ c. let t = c.loop-test.true in let p = c.before.before.requires.0 in record { fits = omega arith })
-    (λ c. let t = c.loop-test.true in omega arith)
-    (λ c. let t = c.loop-test.true in
-    let p = c.before.before.requires.1 in
-    let e = c.before.loop.invariant.1.size in (omega arith, cleared_more c.before.loop.invariant.1 (omega arith)))
-    (λ c. c.before.loop.invariant.1.size)
-    (λ c. let e : c.before.loop.s
-    ≡ c.before.before.args.states = (let l = c.before.loop.invariant.0 in let t = c.loop-test.false in omega arith) in
-    rw e at c.before.loop.invariant.1))
+    (λ c. let t = c.loop-s-test.true in let p = c.requires.0 in record { fits = omega arith })
+    (λ c. let t = c.loop-s-test.true in let p = c.requires.0 in omega arith)
+    (λ c. let t = c.loop-s-test.true in let p = c.requires.1 in let e = c.loop-s.invariant.1.size in omega arith)
+    (λ c. let t = c.loop-s-test.true in let p = c.requires.0 in record { fits = omega arith })
+    (λ c. let t = c.loop-s-test.true in omega arith)
+    (λ c. let t = c.loop-s-test.true in
+    let p = c.requires.1 in
+    let e = c.loop-s.invariant.1.size in (omega arith, cleared_more c.loop-s.invariant.1 (omega arith)))
+    (λ c. c.loop-s.invariant.1.size)
+    (λ c. let e : c.loop-s.s
+    ≡ c.args.states = (let l = c.loop-s.invariant.0 in let t = c.loop-s-test.false in omega arith) in
+    rw e at c.loop-s.invariant.1))

@@ -10,7 +10,7 @@ pub gather_spec : {M : Type 1} → statement M
 gather_spec =
     tie.close
     (tie.spec
-    (λ c κs. (c.before.requires.1.placed, c.before.requires.1.counted, c.before.requires.2))
+    (λ c κs. (c.requires.1.placed, c.requires.1.counted, c.requires.2))
     (λ c. let c1 = c.before.before.before in let l = own-few c1.requires.0 c1.requires.1 in let f = upper-few c1.requires.0 in
     omega arith)
     (λ c. let c1 = c.before.before.before in one-goal c1.requires.0 c1.requires.1)

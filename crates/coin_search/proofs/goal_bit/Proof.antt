@@ -12,5 +12,5 @@ goal_bit_spec =
     (tie.spec
     (λ c κs. search rules)
     (λ c. search rules)
-    (λ c. let c1 = c.before.before.before in bit-met _ _ _ _ c1.requires.1 c.before.mark_of.ensures c.if1.true)
-    (λ c. let c1 = c.before.before.before in bit-missed _ _ _ _ c1.requires.1 c.before.mark_of.ensures c.if1.false))
+    (λ c. let c1 = c.before.before.before in bit-met _ _ _ _ c1.requires.1 c.mark_of.ensures c.if-mark_of-m.true)
+    (λ c. let c1 = c.before.before.before in bit-missed _ _ _ _ c1.requires.1 c.mark_of.ensures c.if-mark_of-m.false))

@@ -13,9 +13,9 @@ goals_with_spec =
     (tie.spec
     (λ c. search rules)
     (λ c. search rules)
-    (λ c. let s = c.before.requires.0 in let l = c.before.requires.1 in omega arith)
+    (λ c. let s = c.requires.0 in let l = c.requires.1 in omega arith)
     (λ c. with_none _ _ _ _)
     (λ c. search rules)
     (λ c. search rules)
-    (λ c. let s = c.before.before.before.requires.0 in let l = c.before.before.before.requires.1 in omega arith)
-    (λ c. with_kept _ _ _ _ c.before.if1.false))
+    (λ c. let s = c.requires.0 in let l = c.requires.1 in omega arith)
+    (λ c. with_kept _ _ _ _ c.if-notes-at.false))

@@ -15,10 +15,10 @@ is_done_spec =
     (tie.spec
     (λ c. search rules)
     (λ c. search rules)
-    (λ c. let s = c.before.requires.0 in let q = c.before.requires.1 in omega arith)
+    (λ c. let s = c.requires.0 in let q = c.requires.1 in omega arith)
     (λ c. λ e. absurd (true≢false (sym e)))
     (λ c. search rules)
     (λ c. search rules)
     (λ c. let c1 = c.before.before.before in let s = c1.requires.0 in let q = c1.requires.1 in omega arith)
     (λ c. let c1 = c.before.before.before in let q = c1.requires.2 in omega arith)
-    (λ c. λ e. done-met _ _ _ _ c.before.if1.false e))
+    (λ c. λ e. done-met _ _ _ _ c.if-notes-at.false e))

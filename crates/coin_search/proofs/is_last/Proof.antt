@@ -12,6 +12,6 @@ is_last_spec =
     (tie.spec
     (λ c. search rules)
     (λ c. search rules)
-    (λ c κs. let t = c.if1.false in let p = c.before.before.requires.0.places in omega arith)
-    (λ c κs. let c1 = c.before.before.before in let e = c.state-at.ensures in let s = c1.requires.0.states _ c.before.if1.false in omega arith)
+    (λ c κs. let t = c.if-next-count.false in let p = c.requires.0.places in omega arith)
+    (λ c κs. let c1 = c.before.before.before in let e = c.state_at.ensures in let s = c1.requires.0.states _ c.if-next-count.false in omega arith)
     (λ c. search rules))

@@ -15,26 +15,26 @@ pub is_spent_spec : {M : Type 1} → statement M
 is_spent_spec =
     tie.close
     (tie.spec
-    (λ c κs. c.before.before.requires.0)
-    (λ c κs. c.before.before.before.requires.2)
+    (λ c κs. c.requires.0)
+    (λ c κs. c.requires.2)
     (λ c. λ e. absurd (true≢false (sym e)))
     (λ c κs. let e = c.before.before.before.before.before in (
       (let m = level-most (view e.args.wave.rows e.args.words.now) e.args.x e.requires.0
-          in let l = c.before.before.level-of.ensures in omega arith),
+          in let l = c.level_of-level.ensures in omega arith),
       e.requires.1.lower,
       e.requires.1.node-small,
     ))
     (λ c. search rules)
     (λ c. search rules)
-    (λ c. let s = c.before.before.before.before.before.before.before.requires.1.size in omega arith)
+    (λ c. let s = c.requires.1.size in omega arith)
     (λ c. λ e. absurd (true≢false (sym e)))
     (λ c. search rules)
     (λ c. search rules)
-    (λ c. let s = c.before.before.before.before.before.before.before.before.before.requires.1.size in omega arith)
+    (λ c. let s = c.requires.1.size in omega arith)
     (λ c. search rules)
-    (λ c. let s = c.before.before.before.before.before.before.before.before.before.before.before.requires.1.size in omega arith)
+    (λ c. let s = c.requires.1.size in omega arith)
     (λ c.
     let e = c.before.before.before.before.before.before.before.before.before.before.before in
     key_met (view e.args.wave.rows e.args.words.now) e.args.x e.args.node e.args.wave.lower
-    c.before.before.before.before.before.before.before.before.level-of.ensures
-    c.before.before.before.before.before.spent-key.ensures _ _ c.before.before.before.if2.false))
+    c.level_of-level.ensures
+    c.spent_key-key.ensures _ _ c.if-notes-at.false))

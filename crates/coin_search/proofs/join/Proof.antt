@@ -16,18 +16,18 @@ join_spec =
     (λ c. let (e, l) = half-few c.args.p c.requires.0 in let n = c.requires.1 in record { fits = omega arith })
     (λ c. search rules)
     (λ c. search rules)
-    (λ c. let (e, l) = half-few c.before.args.p c.before.requires.0 in let n = c.before.requires.1 in let z = c.before.requires.2 in omega arith)
-    (λ c. let (e, l) = half-few c.before.args.p c.before.requires.0 in record { fits = omega arith })
-    (λ c. let (e, l) = half-few c.before.args.p c.before.requires.0 in let n = c.before.requires.1 in record {
+    (λ c. let (e, l) = half-few c.args.p c.requires.0 in let n = c.requires.1 in let z = c.requires.2 in omega arith)
+    (λ c. let (e, l) = half-few c.args.p c.requires.0 in record { fits = omega arith })
+    (λ c. let (e, l) = half-few c.args.p c.requires.0 in let n = c.requires.1 in record {
       fits = omega
           arith;
     })
     (λ c. search rules)
     (λ c. search rules)
-    (λ c. let (e, l) = half-few c.before.before.args.p c.before.before.requires.0 in let n = c.before.before.requires.1 in
-    let z = c.before.before.requires.2 in omega arith)
+    (λ c. let (e, l) = half-few c.args.p c.requires.0 in let n = c.requires.1 in
+    let z = c.requires.2 in omega arith)
     (λ c. search rules)
-    (λ c. let n = c.before.before.requires.1 in let z = c.before.before.requires.2 in omega arith)
+    (λ c. let n = c.requires.1 in let z = c.requires.2 in omega arith)
     (λ c. search rules)
-    (λ c. join_is c.before.before.args.notes.now c.before.before.args.node c.before.before.args.p (half-few
-    c.before.before.args.p c.before.before.requires.0).0 refl))
+    (λ c. join_is c.args.notes.now c.args.node c.args.p (half-few
+    c.args.p c.requires.0).0 refl))

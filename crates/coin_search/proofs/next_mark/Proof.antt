@@ -16,24 +16,24 @@ next_mark_spec =
     (tie.spec
     (λ c. search rules)
     (λ c κs. search rules)
-    (λ c. next-empty c.before.header-word.ensures c.if1.true)
-    (λ c. next-over c.if2.true)
+    (λ c. next-empty c.header_word.ensures c.if-header_word-eq0.true)
+    (λ c. next-over c.if-done-count.true)
     (λ c κs. search rules)
-    (λ c κs. let e = c.state-at.ensures in
-    let l = c.before.before.before.before.before.before.before.requires.3.states _ c.before.if2.false in omega arith)
+    (λ c κs. let e = c.state_at-s.ensures in
+    let l = c.requires.3.states _ c.if-done-count.false in omega arith)
     (λ c κs. search rules)
     (λ c. record {
       fits = let m =
           mark-small
-          (c.before.before.before.before.before.before.shared-slice-known3.given c.before.before.state-at.result).fits
-          c.before.mark_of.ensures in
+          (c.shared_slice_known-3-1.given c.state_at-s.result).fits
+          c.mark_of.ensures in
           let c =
           cost-small
-          (c.before.before.before.before.before.before.before.shared-slice-known2.given
-          c.before.before.before.before.before.before.before.before.before.args.r).fits c.step-cost.ensures in
+          (c.shared_slice_known-2-1.given
+          c.args.r).fits c.step_cost.ensures in
           omega arith;
     })
     (λ c. next-some c.before.before.before.before.before.before.before.before.before.pre.0
-    c.before.before.before.before.before.header-word.ensures c.before.before.before.before.if1.left
-    c.before.before.before.if2.left c.before.before.state-at.ensures c.before.mark_of.ensures
-    c.step-cost.ensures))
+    c.header_word.ensures c.if-header_word-eq0.left
+    c.if-done-count.left c.state_at-s.ensures c.mark_of.ensures
+    c.step_cost.ensures))

@@ -19,4 +19,4 @@ note_mark_spec =
     (λ c. search rules)
     (λ c. search rules)
     (λ c. search rules)
-    (λ c. noted_one _ _ _ _ _ c.before.before.before.before.before.requires.1 c.before.before.before.before.before.requires.2 c.before.before.mark_of.ensures c.before.if1.false))
+    (λ c. noted_one _ _ _ _ _ c.requires.1 c.requires.2 c.mark_of.ensures c.if-mark_of-eq0.false))

@@ -12,6 +12,6 @@ put_done_spec =
     (tie.spec
     (λ c. search rules)
     (λ c. search rules)
-    (λ c κs. let s = c.before.before.requires.0 in let q = c.before.before.requires.1 in (omega arith, omega arith))
+    (λ c κs. let s = c.requires.0 in let q = c.requires.1 in (omega arith, omega arith))
     (λ c. search rules)
     (λ c. search rules))

@@ -16,4 +16,4 @@ put_mark_spec =
     (λ c. search rules)
     (λ c. search rules)
     (λ c. search rules)
-    (λ c. mark-put _ _ _ c.before.requires.0))
+    (λ c. mark-put _ _ _ c.requires.0))

@@ -14,23 +14,23 @@ pub put_spent_spec : {M : Type 1} → statement M
 put_spent_spec =
     tie.close
     (tie.spec
-    (λ c κs. c.before.before.requires.0)
-    (λ c κs. c.before.before.before.requires.2)
+    (λ c κs. c.requires.0)
+    (λ c κs. c.requires.2)
     (λ c. none)
     (λ c κs. let e = c.before.before.before.before.before in (
       (let m = level-most (view e.args.wave.rows e.args.words.now) e.args.x e.requires.0
-          in let l = c.before.before.level-of.ensures in omega arith),
+          in let l = c.level_of-level.ensures in omega arith),
       e.requires.1.lower,
       e.requires.1.node-small,
     ))
-    (λ c κs. (c.before.before.before.before.before.before.before.requires.1.size, omega arith))
+    (λ c κs. (c.requires.1.size, omega arith))
     (λ c. search rules)
     (λ c. search rules)
-    (λ c κs. let s = c.before.before.before.before.before.before.before.before.before.requires.1.size in (omega arith, omega arith))
+    (λ c κs. let s = c.requires.1.size in (omega arith, omega arith))
     (λ c. search rules)
     (λ c.
     let e = c.before.before.before.before.before.before.before.before.before.before.before.before in
     key_put (view e.args.wave.rows e.args.words.now) e.args.x e.args.node e.args.wave.lower
-    c.before.before.before.before.before.before.before.before.before.level-of.ensures
-    c.before.before.before.before.before.before.spent-key.ensures _ _
-    c.before.before.before.before.goals-with.ensures c.before.before.put-pair.ensures))
+    c.level_of-level.ensures
+    c.spent_key-key.ensures _ _
+    c.goals_with-goals.ensures c.put_pair.ensures))

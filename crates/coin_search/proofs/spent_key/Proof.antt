@@ -17,9 +17,9 @@ spent_key_spec =
     (λ c. search rules)
     (λ c. search rules)
     (λ c. record {
-      fits = let m = shr_le c.before.args.wave.lower (c.before.args.level / 2) in let l = c.before.requires.1 in omega arith;
+      fits = let m = shr_le c.args.wave.lower (c.args.level / 2) in let l = c.requires.1 in omega arith;
     })
     (λ c. record {
-      fits = let m = shr_le c.before.args.wave.lower (c.before.args.level / 2) in let l = c.before.requires.1 in let n = c.before.requires.2 in omega arith;
+      fits = let m = shr_le c.args.wave.lower (c.args.level / 2) in let l = c.requires.1 in let n = c.requires.2 in omega arith;
     })
     (λ c. search rules))

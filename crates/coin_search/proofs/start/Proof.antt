@@ -13,11 +13,11 @@ use Rattle.coin_search.proofs.start.Reads as reads
 use Rattle.coin_search.proofs.start.Lts as lts
 use Rattle.coin_search.proofs.add_goal.Reads as add-goal-reads
 
-abbrev invariant_loop : tie.invariant_loop
+abbrev invariant_loop : tie.invariant-loop-s
 invariant_loop words rows bits work₀ b states s₀ count₀ work s count =
     (states ≡ 2 ^ bits) × (s ≤ states) × (length work ≡ length work₀) × Started (view rows words) bits work b s count
 
-abbrev decreases_loop : tie.decreases_loop
+abbrev decreases_loop : tie.decreases-loop-s
 decreases_loop words rows bits work₀ b states s₀ count₀ work s count = states - s
 
 pub start_spec : {M : Type 1} → statement M
@@ -26,29 +26,29 @@ start_spec =
     (tie.spec
     invariant_loop
     decreases_loop
-    (λ c. let b = c.before.before.requires.1.small in omega arith)
+    (λ c. let b = c.requires.1.small in omega arith)
     (λ c. (
-      power_is c.before.before.args.bits c.before.before.requires.1.small,
+      power_is c.args.bits c.requires.1.small,
       omega arith,
       refl,
-      started_none _ c.before.before.requires.1,
+      started_none _ c.requires.1,
     ))
     (λ c κs. (
-      c.before.before.before.before.before.requires.0,
-      c.before.before.loop.invariant.3,
-      let e = c.before.before.loop.invariant.0 in
-          let t = c.before.loop-test.true in omega arith,
+      c.requires.0,
+      c.loop-s.invariant.3,
+      let e = c.loop-s.invariant.0 in
+          let t = c.loop-s-test.true in omega arith,
     ))
     (λ c. search rules)
-    (λ c. let t = c.before.before.before.before.loop-test.true in omega arith)
-    (λ c. let t = c.before.before.before.before.loop-test.true in (
-      c.before.before.before.before.before.loop.invariant.0,
+    (λ c. let t = c.loop-s-test.true in omega arith)
+    (λ c. let t = c.loop-s-test.true in (
+      c.loop-s.invariant.0,
       omega arith,
-      c.before.before.add-goal.auto.1.1.1.0 ∙ c.before.before.before.before.before.loop.invariant.2,
-      c.before.before.add-goal.ensures,
+      c.add_goal-count.auto.work ∙ c.loop-s.invariant.2,
+      c.add_goal-count.ensures,
     ))
-    (λ c. c.before.loop.invariant.2)
-    (λ c. let e : c.before.loop.s
-    ≡ 2 ^ c.before.before.before.before.args.bits =
-    (let q = c.before.loop.invariant.0 in let l = c.before.loop.invariant.1 in let t = c.loop-test.false in omega arith) in
-    rw e at c.before.loop.invariant.3))
+    (λ c. c.loop-s.invariant.2)
+    (λ c. let e : c.loop-s.s
+    ≡ 2 ^ c.args.bits =
+    (let q = c.loop-s.invariant.0 in let l = c.loop-s.invariant.1 in let t = c.loop-s-test.false in omega arith) in
+    rw e at c.loop-s.invariant.3))

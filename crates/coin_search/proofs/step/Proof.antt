@@ -15,4 +15,4 @@ step_spec =
     (λ c κs. search rules)
     (λ c. search rules)
     (λ c κs. search rules)
-    (λ c. let c1 = c.before.before.before in step-ends c1.requires.0 c1.requires.1 refl c.before.follow-at.ensures c.follow-at2.ensures))
+    (λ c. let c1 = c.before.before.before in step-ends c1.requires.0 c1.requires.1 refl c.follow_at-y.ensures c.follow_at.ensures))

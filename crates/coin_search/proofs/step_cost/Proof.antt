@@ -8,6 +8,6 @@ use Rattle.coin_search.proofs.step_cost.Lts as lts
 pub step_cost_spec : {M : Type 1} → statement M
 step_cost_spec =
     tie.close
-    (tie.spec (λ c. search rules) (λ c. record { fits = omega (arith, c.shared-slice-known.given c.before.args.r) })
-    (λ c. record { fits = omega (arith, c.shared-slice-known.given c.before.args.r) })
-    (λ c. record { fits = omega (arith, c.shared-slice-known.given c.before.args.r) }) (λ c. search rules))
+    (tie.spec (λ c. search rules) (λ c. record { fits = omega (arith, c.shared_slice_known-1.given c.args.r) })
+    (λ c. record { fits = omega (arith, c.shared_slice_known-1.given c.args.r) })
+    (λ c. record { fits = omega (arith, c.shared_slice_known-1.given c.args.r) }) (λ c. search rules))

@@ -9,10 +9,10 @@ use Rattle.collect.proofs.GatherLaws.{headed_refl, headed_put, headed_list}
 use Rattle.collect.proofs.clear_heads.Statement.{statement}
 use Rattle.collect.proofs.clear_heads.Tie as tie
 
-abbrev invariant_loop : tie.invariant_loop
+abbrev invariant_loop : tie.invariant-loop-k
 invariant_loop words₀ rows total k₀ words k = (k ≤ total) × (length words ≡ length words₀) × Headed (view rows words₀) (view rows words)
 
-abbrev decreases_loop : tie.decreases_loop
+abbrev decreases_loop : tie.decreases-loop-k
 decreases_loop words₀ rows total k₀ words k = total - k
 
 pub clear_heads_spec : {M : Type 1} → statement M
@@ -22,18 +22,18 @@ clear_heads_spec =
     invariant_loop
     decreases_loop
     (λ c. (omega arith, refl, headed_refl _))
-    (λ c κs. let p = c.before.before.before.before.requires in
-    let v = c.before.before.loop.invariant.1 in let t = c.before.loop-test.true in omega arith)
-    (λ c κs. let p = c.before.before.before.before.before.before.requires in
-    let v = c.before.before.before.before.loop.invariant.1 in
-    let q = c.before.before.before.before.before.before.requires.3 _ c.before.before.before.loop-test.true in
-    let e = c.before.listed.ensures ∙ headed_list _ c.before.before.before.before.loop.invariant.2 in omega arith)
-    (λ c κs. let p = c.before.before.before.before.before.before.before.before.requires in
-    let v = c.before.before.before.before.before.before.loop.invariant.1 in let b = c.before.row-bucket.ensures.1 in omega arith)
-    (λ c. let t = c.before.before.before.before.before.before.before.before.loop-test.true in omega arith)
-    (λ c. let t = c.before.before.before.before.before.before.before.before.loop-test.true in omega arith)
-    (λ c. let t = c.before.before.before.before.before.before.before.before.loop-test.true in
-    let v = c.before.before.before.before.before.before.before.before.before.loop.invariant in
-    (omega arith, c.before.before.put_head_lem.auto.0 ∙ v.1, headed_put _ _ v.2 c.before.before.put_head_lem.ensures))
-    (λ c. c.before.loop.invariant.1)
-    (λ c. c.before.loop.invariant.2))
+    (λ c κs. let p = c.requires in
+    let v = c.loop-k.invariant.1 in let t = c.loop-k-test.true in omega arith)
+    (λ c κs. let p = c.requires in
+    let v = c.loop-k.invariant.1 in
+    let q = c.requires.3 _ c.loop-k-test.true in
+    let e = c.listed-i.ensures ∙ headed_list _ c.loop-k.invariant.2 in omega arith)
+    (λ c κs. let p = c.requires in
+    let v = c.loop-k.invariant.1 in let b = c.row_bucket-b.ensures.1 in omega arith)
+    (λ c. let t = c.loop-k-test.true in omega arith)
+    (λ c. let t = c.loop-k-test.true in omega arith)
+    (λ c. let t = c.loop-k-test.true in
+    let v = c.loop-k.invariant in
+    (omega arith, c.put_head.auto.words ∙ v.1, headed_put _ _ v.2 c.put_head.ensures))
+    (λ c. c.loop-k.invariant.1)
+    (λ c. c.loop-k.invariant.2))

@@ -13,17 +13,17 @@ collect_rows_spec =
     tie.close
     (tie.spec
     (λ c. search rules)
-    (λ c κs. let s = c.before.before.before.requires in
+    (λ c κs. let s = c.requires in
     record { base = sound-base s; order = omega arith; within = omega arith; ref = λ h a l. s.refs h a (omega arith) })
     (λ c. search rules)
-    (λ c κs. let s = c.before.before.before.before.before.before.before.requires in
-    let z = s.good.sizes in let e = c.before.before.before.mark-filled.auto.1.1.0 in (s.good, omega arith))
-    (λ c κs. let z = c.before.before.before.before.before.before.before.before.before.before.before.requires.good.sizes in
-    let e = c.before.before.before.gather.auto.0 in omega arith)
+    (λ c κs. let s = c.requires in
+    let z = s.good.sizes in let e = c.mark_filled.auto.marks in (s.good, omega arith))
+    (λ c κs. let z = c.requires.good.sizes in
+    let e = c.gather.auto.words in omega arith)
     (λ c. search rules)
     (λ c. collect-by
-    (view c.before.before.before.before.before.before.before.before.before.before.before.before.args.rows
-    c.before.before.before.before.before.before.before.before.before.before.before.before.args.words.now) _ _ _
-    (no-marks MARK_WORDS) c.before.before.before.before.gather.ensures
-    c.before.before.before.before.before.before.before.before.before.before.before.before.requires
-    c.before.before.before.before.before.before.before.before.mark-filled.ensures c.header-word.ensures))
+    (view c.args.rows
+    c.args.words.now) _ _ _
+    (no-marks MARK_WORDS) c.gather.ensures
+    c.requires
+    c.mark_filled.ensures c.header_word.ensures))

@@ -16,21 +16,21 @@ free_many_spec =
     tie.close
     (tie.spec
     (λ c. search rules)
-    (λ c κs. let s = c.before.before.before.requires in
+    (λ c κs. let s = c.requires in
     record { base = sound-base s; order = omega arith; within = omega arith; ref = λ h a l. s.refs h a (omega arith) })
     (λ c. search rules)
-    (λ c κs. let s = c.before.before.before.before.before.before.before.requires in
+    (λ c κs. let s = c.requires in
     let z = s.good.sizes in
-    let e = c.before.before.before.mark-filled.auto.1.1.0 in (s.good.ranked, omega arith, omega arith))
+    let e = c.mark_filled.auto.marks in (s.good.ranked, omega arith, omega arith))
     (λ c. search rules)
     (λ c. few refl)
     (λ c. search rules)
-    (λ c κs. let s = c.before.before.before.before.before.before.before.before.before.before.before.requires in
+    (λ c κs. let s = c.requires in
     let z = s.good.sizes in
-    let e = c.before.before.before.before.before.before.before.mark-filled.auto.1.1.0 in (s.good, omega arith))
+    let e = c.mark_filled.auto.marks in (s.good, omega arith))
     (λ c. search rules)
     (λ c. many
     (filled-by
-    (view c.before.before.before.before.before.before.before.before.before.before.before.before.before.before.args.rows c.before.before.before.before.before.before.before.before.before.before.before.before.before.before.args.words.now) _ _ _ (no-marks MARK_WORDS) c.before.before.gather.ensures
-    c.before.before.before.before.before.before.before.before.before.before.before.before.before.before.requires
-    c.before.before.before.before.before.before.before.before.before.before.mark-filled.ensures)))
+    (view c.args.rows c.args.words.now) _ _ _ (no-marks MARK_WORDS) c.gather.ensures
+    c.requires
+    c.mark_filled.ensures)))

@@ -18,27 +18,27 @@ free_rows_spec =
     tie.close
     (tie.spec
     (λ c. search rules)
-    (λ c κs. let p = c.before.before.before.before.before.requires in (
+    (λ c κs. let p = c.requires in (
       record { base = sound-base p.sound; order = omega arith; within = omega arith; ref = p.sound.refs },
       record {
         base = sound-base p.sound;
-        arrow = λ a h. p.arrows a (append_left c.before.before.before.before.before.args.more.now h);
+        arrow = λ a h. p.arrows a (append_left c.args.more.now h);
       },
     ))
     (λ c. search rules)
-    (λ c κs. let p = c.before.before.before.before.before.before.before.before.before.requires in
+    (λ c κs. let p = c.requires in
     record {
-      base = rw c.before.before.before.mark-roots.auto.1.1.0 (sound-base p.sound);
+      base = rw c.mark_roots.auto.marks (sound-base p.sound);
       arrow =
-          λ a h. p.arrows a (append_right c.before.before.before.before.before.before.before.before.before.args.roots.now h);
+          λ a h. p.arrows a (append_right c.args.roots.now h);
     })
     (λ c. search rules)
     (λ c κs. search rules)
     (λ c. search rules)
     (λ c. free-by
-    (view c.before.before.before.before.before.before.before.before.before.before.before.before.before.before.before.before.args.rows
-    c.before.before.before.before.before.before.before.before.before.before.before.before.before.before.before.before.args.words.now) _ _ _ (no-marks MARK_WORDS) c.before.before.gather.ensures
-    (c.before.before.before.before.before.before.before.before.before.before.before.before.before.before.before.before.args.roots.now
-    ++ c.before.before.before.before.before.before.before.before.before.before.before.before.before.before.before.before.args.more.now)
-    c.before.before.before.before.before.before.before.before.before.before.before.before.before.before.before.before.requires (more-marks _ _ _ c.before.before.before.before.before.before.before.before.before.before.mark-roots.ensures
-    c.before.before.before.before.before.before.mark-list.ensures)))
+    (view c.args.rows
+    c.args.words.now) _ _ _ (no-marks MARK_WORDS) c.gather.ensures
+    (c.args.roots.now
+    ++ c.args.more.now)
+    c.requires (more-marks _ _ _ c.mark_roots.ensures
+    c.mark_list.ensures)))

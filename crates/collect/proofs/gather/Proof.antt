@@ -10,32 +10,32 @@ pub gather_spec : {M : Type 1} → statement M
 gather_spec =
     tie.close
     (tie.spec
-    (λ c κs. let z = c.before.before.before.requires.0.sizes in omega arith)
-    (λ c κs. let z = c.before.before.before.before.before.requires.0.sizes in omega arith)
-    (λ c κs. let g = c.before.before.before.before.before.before.before.before.before.requires.0 in
+    (λ c κs. let z = c.requires.0.sizes in omega arith)
+    (λ c κs. let z = c.requires.0.sizes in omega arith)
+    (λ c κs. let g = c.requires.0 in
     let z = g.sizes in
-    let e = c.before.before.before.before.before.header-word.ensures in
+    let e = c.header_word-total.ensures in
     let r = g.ranked.count-le in
-    let l = c.before.before.before.put_header_lem.auto.0 in (
+    let l = c.put_header.auto.words in (
       omega arith,
       omega arith,
       omega arith,
-      λ k h. rw (ap (λ (v : View). v.list k) c.before.before.before.put_header_lem.ensures) (g.ranked.within k (omega arith)),
+      λ k h. rw (ap (λ (v : View). v.list k) c.put_header.ensures) (g.ranked.within k (omega arith)),
     ))
-    (λ c κs. let g = c.before.before.before.before.before.before.before.before.before.before.before.before.before.requires.0 in
+    (λ c κs. let g = c.requires.0 in
     gather-pre
-    (view c.before.before.before.before.before.before.before.before.before.before.before.before.before.args.rows
-    c.before.before.before.before.before.before.before.before.before.before.before.before.before.args.words.now)
-    c.before.before.before.before.before.before.before.before.before.header-word.ensures
-    c.before.before.before.before.before.before.before.put_header_lem.ensures c.before.before.before.clear-heads.ensures _
+    (view c.args.rows
+    c.args.words.now)
+    c.header_word-total.ensures
+    c.put_header.ensures c.clear_heads.ensures _
     g.sizes.room g.sizes.N-max
-    c.before.before.before.before.before.before.before.before.before.before.before.before.before.requires.1 g.ranked
+    c.requires.1 g.ranked
     g.rows.shared)
-    (λ c. c.before.before.regather.auto.0 ∙ c.before.before.before.before.before.before.clear-heads.auto.0
-    ∙ c.before.before.before.before.before.before.before.before.before.before.put_header_lem.auto.0)
+    (λ c. c.regather.auto.words ∙ c.clear_heads.auto.words
+    ∙ c.put_header.auto.words)
     (λ c. gathered_by
-    (view c.before.before.before.before.before.before.before.before.before.before.before.before.before.before.before.before.args.rows
-    c.before.before.before.before.before.before.before.before.before.before.before.before.before.before.before.before.args.words.now)
-    c.before.before.before.before.before.before.before.before.before.before.before.before.header-word.ensures
-    c.before.before.before.before.before.before.before.before.before.before.put_header_lem.ensures
-    c.before.before.before.before.before.before.clear-heads.ensures _ c.before.before.regather.ensures))
+    (view c.args.rows
+    c.args.words.now)
+    c.header_word-total.ensures
+    c.put_header.ensures
+    c.clear_heads.ensures _ c.regather.ensures))

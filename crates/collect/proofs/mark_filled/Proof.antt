@@ -5,4 +5,4 @@ use Rattle.collect.proofs.mark_filled.Tie as tie
 
 pub mark_filled_spec : {M : Type 1} → statement M
 mark_filled_spec =
-    tie.close (tie.spec (λ c κs. c.before.before.before.requires) (λ c. search rules) (λ c. c.before.before.mark-refs.ensures))
+    tie.close (tie.spec (λ c κs. c.requires) (λ c. search rules) (λ c. c.mark_refs.ensures))

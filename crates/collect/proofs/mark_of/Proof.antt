@@ -7,5 +7,5 @@ use Rattle.collect.proofs.mark_of.Tie as tie
 pub mark_of_spec : {M : Type 1} → statement M
 mark_of_spec =
     tie.close
-    (tie.spec (λ c κs. search rules) (λ c. rw (sym c.before.marked.ensures ∙ c.if1.true))
-    (λ c. rw (sym c.before.marked.ensures ∙ c.if1.false)))
+    (tie.spec (λ c κs. search rules) (λ c. rw (sym c.marked.ensures ∙ c.if-marked.true))
+    (λ c. rw (sym c.marked.ensures ∙ c.if-marked.false)))

@@ -9,7 +9,7 @@ pub mark_roots_spec : {M : Type 1} → statement M
 mark_roots_spec =
     tie.close
     (tie.spec
-    (λ c κs. let p = c.before.before.before.before.requires.0 in
+    (λ c κs. let p = c.requires.0 in
     record { base = p.base; order = omega arith; within = omega arith; ref = λ h a l. p.ref h a (omega arith) }) (λ c κs. search rules)
     (λ c. search rules)
-    (λ c. live-marks c.before.before.before.before.before.before.mark-filled.ensures c.before.before.mark-list.ensures))
+    (λ c. live-marks c.mark_filled.ensures c.mark_list.ensures))

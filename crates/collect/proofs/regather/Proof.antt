@@ -13,11 +13,11 @@ use Rattle.rows.specs.Bits.{On}
 use Rattle.collect.proofs.regather.Statement.{statement}
 use Rattle.collect.proofs.regather.Tie as tie
 
-abbrev invariant_loop : tie.invariant_loop
+abbrev invariant_loop : tie.invariant-loop-k
 invariant_loop words₀ rows total marks k₀ words k =
     (k ≤ total) × (length words ≡ length words₀) × Part (put_header (view rows words₀) USED total) (λ j. On marks j) k (view rows words)
 
-abbrev decreases_loop : tie.decreases_loop
+abbrev decreases_loop : tie.decreases-loop-k
 decreases_loop words₀ rows total marks k₀ words k = total - k
 
 pub regather_spec : {M : Type 1} → statement M
@@ -26,37 +26,37 @@ regather_spec =
     (tie.spec
     invariant_loop
     decreases_loop
-    (λ c. (omega arith, refl, part-zero _ _ c.before.before.requires.none _))
-    (λ c κs. let p = c.before.before.before.before.before.requires in
-    let q = p.ranked.count-le in let v = c.before.before.loop.invariant.1 in let t = c.before.loop-test.true in omega arith)
-    (λ c κs. let p = c.before.before.before.before.before.before.requires in
+    (λ c. (omega arith, refl, part-zero _ _ c.requires.none _))
+    (λ c κs. let p = c.requires in
+    let q = p.ranked.count-le in let v = c.loop-k.invariant.1 in let t = c.loop-k-test.true in omega arith)
+    (λ c κs. let p = c.requires in
     let m = p.marks in
-    let r = next_row p c.before.before.before.loop.invariant.2 c.before.before.loop-test.true c.listed.ensures in
+    let r = next_row p c.loop-k.invariant.2 c.loop-k-test.true c.listed-i.ensures in
     omega arith)
-    (λ c κs. let p = c.before.before.before.before.before.before.before.before.before.requires in
-    let r = next_row p c.before.before.before.before.before.before.loop.invariant.2
-    c.before.before.before.before.before.loop-test.true c.before.before.before.listed.ensures in
-    let q = next-room p c.before.before.before.before.before.before.loop.invariant.2
-    c.before.before.before.before.before.loop-test.true in (r, q.0, q.1))
-    (λ c. let t = c.before.before.before.before.loop-test.true in omega arith)
-    (λ c. let t = c.before.before.before.before.loop-test.true in omega arith)
-    (λ c. let v = c.before.before.before.before.before.loop.invariant in
-    let t = c.before.before.before.before.loop-test.true in
-    let p = c.before.before.before.before.before.before.before.before.requires in
-    let e = c.before.before.listed.ensures in let m = c.before.marked.ensures in (
+    (λ c κs. let p = c.requires in
+    let r = next_row p c.loop-k.invariant.2
+    c.loop-k-test.true c.listed-i.ensures in
+    let q = next-room p c.loop-k.invariant.2
+    c.loop-k-test.true in (r, q.0, q.1))
+    (λ c. let t = c.loop-k-test.true in omega arith)
+    (λ c. let t = c.loop-k-test.true in omega arith)
+    (λ c. let v = c.loop-k.invariant in
+    let t = c.loop-k-test.true in
+    let p = c.requires in
+    let e = c.listed-i.ensures in let m = c.marked.ensures in (
       omega arith,
       ⊎_elim
           (λ w. ap length w.5 ∙ w.2.kept.0 ∙ v.1)
           (λ w. ap length w.1 ∙ v.1)
-          c.if1.branch,
+          c.if-marked.branch,
       ⊎_elim
           (λ w. next-keep p v.2 t e (sym m ∙ w.0.taken)
-          (ap (view c.before.before.before.before.before.before.before.before.args.rows) w.5 ∙ w.2.ensures))
+          (ap (view c.args.rows) w.5 ∙ w.2.ensures))
           (λ w. next-skip p v.2 t e (λ o. true≢false (sym o ∙ sym m ∙ w.0.left))
-          (ap (view c.before.before.before.before.before.before.before.before.args.rows) w.1))
-          c.if1.branch,
+          (ap (view c.args.rows) w.1))
+          c.if-marked.branch,
     ))
-    (λ c. c.before.loop.invariant.1)
-    (λ c. let v = c.before.loop.invariant in
-    let t = c.loop-test.false in
-    let e : c.before.loop.k ≡ c.before.before.before.before.args.total = omega arith in rw e at v.2))
+    (λ c. c.loop-k.invariant.1)
+    (λ c. let v = c.loop-k.invariant in
+    let t = c.loop-k-test.false in
+    let e : c.loop-k.k ≡ c.args.total = omega arith in rw e at v.2))

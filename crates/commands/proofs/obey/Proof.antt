@@ -10,51 +10,51 @@ pub obey_spec : {M : Type 1} → statement M
 obey_spec =
     tie.close
     (tie.spec
-    (λ c κs. says_fail c.before.if1.true c.before.before.before.before.requires.2)
+    (λ c κs. says_fail c.if-not-sound.true-raw c.requires.2)
     (λ c. search rules)
-    (λ c. c.before.before.obey-unsound.ensures c.before.before.before.before.before.before.before.args.bytes.now
-    c.before.before.before.before.before.before.before.args.size)
+    (λ c. c.obey_unsound.ensures c.args.bytes.now
+    c.args.size)
     (λ c. search rules)
     (λ c κs. search rules)
     (λ c. search rules)
-    (λ c. starts_as c.before.before.command2.given.1 c.before.before.before.before.before.before.before.requires.0)
-    (λ c. starts_as c.before.before.command2.given.1 c.before.before.before.before.before.before.before.requires.0)
+    (λ c. starts_as c.in-Relation.is c.requires.0)
+    (λ c. starts_as c.in-Relation.is c.requires.0)
     (λ c. search rules)
-    (λ c κs. says_pass c.before.before.before.before.before.if1.false
-    c.before.before.before.before.before.before.before.before.requires.2)
+    (λ c κs. says_pass c.if-not-sound.false-raw
+    c.requires.2)
     (λ c. search rules)
-    (λ c. starts_as c.before.before.command3.given.1 c.before.before.before.before.before.before.before.requires.0)
-    (λ c. starts_as c.before.before.command3.given.1 c.before.before.before.before.before.before.before.requires.0)
+    (λ c. starts_as c.in-Set.is c.requires.0)
+    (λ c. starts_as c.in-Set.is c.requires.0)
     (λ c. search rules)
-    (λ c κs. says_pass c.before.before.before.before.before.if1.false
-    c.before.before.before.before.before.before.before.before.requires.2)
+    (λ c κs. says_pass c.if-not-sound.false-raw
+    c.requires.2)
     (λ c. search rules)
-    (λ c κs. says_pass c.before.before.before.before.if1.false c.before.before.before.before.before.before.before.requires.2)
+    (λ c κs. says_pass c.if-not-sound.false-raw c.requires.2)
     (λ c. search rules)
-    (λ c κs. says_pass c.before.before.before.before.if1.false c.before.before.before.before.before.before.before.requires.2)
+    (λ c κs. says_pass c.if-not-sound.false-raw c.requires.2)
     (λ c. search rules)
-    (λ c κs. says_pass c.before.before.before.if1.false c.before.before.before.before.before.before.requires.2)
+    (λ c κs. says_pass c.if-not-sound.false-raw c.requires.2)
     (λ c. search rules)
-    (λ c. obeys_as c.before.before.before.before.before.before.before.before.before.before.args.bytes.now
-    c.before.before.before.before.before.before.before.before.before.before.args.size
-    c.before.before.before.before.before.command.given.1 c.before.before.obey-fresh.ensures)
+    (λ c. obeys_as c.args.bytes.now
+    c.args.size
+    c.in-Fresh.is c.obey_fresh.ensures)
     (λ c. search rules)
-    (λ c. obeys_as c.before.before.before.before.before.before.before.before.before.before.before.args.bytes.now
-    c.before.before.before.before.before.before.before.before.before.before.before.args.size
-    c.before.before.before.before.before.before.command2.given.1 c.before.before.obey-relation.ensures)
+    (λ c. obeys_as c.args.bytes.now
+    c.args.size
+    c.in-Relation.is c.obey_relation.ensures)
     (λ c. search rules)
-    (λ c. obeys_as c.before.before.before.before.before.before.before.before.before.before.before.args.bytes.now
-    c.before.before.before.before.before.before.before.before.before.before.before.args.size
-    c.before.before.before.before.before.before.command3.given.1 c.before.before.obey-set.ensures)
+    (λ c. obeys_as c.args.bytes.now
+    c.args.size
+    c.in-Set.is c.obey_set.ensures)
     (λ c. search rules)
-    (λ c. obeys_as c.before.before.before.before.before.before.before.before.before.before.args.bytes.now
-    c.before.before.before.before.before.before.before.before.before.before.args.size
-    c.before.before.before.before.before.command4.given.1 c.before.before.obey-clear.ensures)
+    (λ c. obeys_as c.args.bytes.now
+    c.args.size
+    c.in-Clear.is c.obey_clear.ensures)
     (λ c. search rules)
-    (λ c. obeys_as c.before.before.before.before.before.before.before.before.before.before.args.bytes.now
-    c.before.before.before.before.before.before.before.before.before.before.args.size
-    c.before.before.before.before.before.command5.given.1 c.before.before.obey-count.ensures)
+    (λ c. obeys_as c.args.bytes.now
+    c.args.size
+    c.in-Count.is c.obey_count.ensures)
     (λ c. search rules)
-    (λ c. obeys_as c.before.before.before.before.before.before.before.before.before.args.bytes.now
-    c.before.before.before.before.before.before.before.before.before.args.size
-    c.before.before.before.before.enum_told.given.1 c.before.before.obey-collect.ensures))
+    (λ c. obeys_as c.args.bytes.now
+    c.args.size
+    c.in-Collect.is c.obey_collect.ensures))

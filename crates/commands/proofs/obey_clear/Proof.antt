@@ -11,16 +11,16 @@ pub obey_clear_spec : {M : Type 1} → statement M
 obey_clear_spec =
     tie.close
     (tie.spec
-    (λ c κs. c.before.before.requires)
+    (λ c κs. c.requires)
     (λ c. search rules)
     (λ c κs. search rules)
     (λ c. search rules)
     (λ c κs. search rules)
     (λ c κs. search rules)
     (λ c. search rules)
-    (λ c. call-told _ tt c.before.before.before.before.before.clear-unchecked.ensures
-    (ap cleared_reply c.before.enum_told.given.1) c.plain.ensures)
+    (λ c. call-told _ tt c.clear_unchecked.ensures
+    (ap cleared_reply c.in-Done.is) c.plain.ensures)
     (λ c. search rules)
-    (λ c. call-told _ tt c.before.before.before.before.before.before.before.clear-unchecked.ensures
-    (ap cleared_reply c.before.before.before.x.given.1 ∙ ap plain (sym c.before.refusal-number.ensures))
-    c.plain2.ensures))
+    (λ c. call-told _ tt c.clear_unchecked.ensures
+    (ap cleared_reply c.in-Refused.is ∙ ap plain (sym c.refusal_number.ensures))
+    c.plain-in-Refused.ensures))

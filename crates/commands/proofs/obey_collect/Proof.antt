@@ -11,16 +11,16 @@ pub obey_collect_spec : {M : Type 1} → statement M
 obey_collect_spec =
     tie.close
     (tie.spec
-    (λ c κs. c.before.before.requires)
+    (λ c κs. c.requires)
     (λ c. search rules)
     (λ c κs. search rules)
     (λ c. search rules)
     (λ c κs. search rules)
     (λ c κs. search rules)
     (λ c. search rules)
-    (λ c. call-told _ tt c.before.before.before.before.before.before.collect-unchecked.ensures
-    (ap collected_reply c.before.before.k.given.1) c.plain.ensures)
+    (λ c. call-told _ tt c.collect_unchecked.ensures
+    (ap collected_reply c.in-Rows.is) c.plain.ensures)
     (λ c. search rules)
-    (λ c. call-told _ tt c.before.before.before.before.before.before.before.collect-unchecked.ensures
-    (ap collected_reply c.before.before.before.x.given.1 ∙ ap plain (sym c.before.refusal-number.ensures))
-    c.plain2.ensures))
+    (λ c. call-told _ tt c.collect_unchecked.ensures
+    (ap collected_reply c.in-Refused.is ∙ ap plain (sym c.refusal_number.ensures))
+    c.plain-in-Refused.ensures))

@@ -16,10 +16,10 @@ obey_fresh_spec =
     (λ c κs. search rules)
     (λ c κs. search rules)
     (λ c. search rules)
-    (λ c. fresh-ready c.before.before.before.before.before.fresh.ensures.0
-    c.before.before.before.before.before.fresh.ensures.1 c.before.enum_told.given.1 c.plain.ensures)
+    (λ c. fresh-ready c.fresh.ensures.0
+    c.fresh.ensures.1 c.in-Ready.is c.plain.ensures)
     (λ c. search rules)
-    (λ c. fresh-refused c.before.before.before.before.before.before.before.fresh.ensures.0
-    c.before.before.before.before.before.before.before.fresh.ensures.1 c.before.before.before.x.given.0.0
-    c.before.before.before.x.given.1 (refusal-some c.before.before.before.x.given.0.0)
-    c.before.refusal-number.ensures c.plain2.ensures))
+    (λ c. fresh-refused c.fresh.ensures.0
+    c.fresh.ensures.1 c.in-Refused.x
+    c.in-Refused.is (refusal-some c.in-Refused.x)
+    c.refusal_number.ensures c.plain-in-Refused.ensures))

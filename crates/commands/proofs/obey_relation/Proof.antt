@@ -12,16 +12,16 @@ pub obey_relation_spec : {M : Type 1} → statement M
 obey_relation_spec =
     tie.close
     (tie.spec
-    (λ c κs. c.before.before.before.requires)
+    (λ c κs. c.requires)
     (λ c. search rules)
     (λ c. search rules)
     (λ c κs. search rules)
     (λ c κs. search rules)
     (λ c. search rules)
     (λ c. relation_done _ _ _
-    (subst (CallPost _ _ _) (ap loaded_reply c.before.p.given.1)
-    c.before.before.before.before.before.relation-unchecked.ensures) refl)
+    (subst (CallPost _ _ _) (ap loaded_reply c.in-Done.is)
+    c.relation_unchecked.ensures) refl)
     (λ c. search rules)
-    (λ c. call-told _ tt c.before.before.before.before.before.before.before.relation-unchecked.ensures
-    (ap loaded_reply c.before.before.before.x.given.1 ∙ ap plain (sym c.before.refusal-number.ensures))
+    (λ c. call-told _ tt c.relation_unchecked.ensures
+    (ap loaded_reply c.in-Refused.is ∙ ap plain (sym c.refusal_number.ensures))
     c.plain.ensures))

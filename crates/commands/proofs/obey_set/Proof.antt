@@ -16,22 +16,22 @@ obey_set_spec =
     tie.close
     (tie.spec
     (λ c κs. search rules)
-    (λ c κs. c.before.before.before.before.requires)
+    (λ c κs. c.requires)
     (λ c. search rules)
-    (λ c κs. (c.before.before.before.before.before.before.set-unchecked.ensures.performs.served
-    c.before.before.before.before.before.before.before.before.before.before.before.requires).0)
+    (λ c κs. (c.set_unchecked.ensures.performs.served
+    c.requires).0)
     (λ c. search rules)
     (λ c κs. search rules)
     (λ c κs. search rules)
     (λ c. search rules)
     (λ c. set_done _ _ _ _ _ _ _ _
-    (subst (CallPost _ _ _) (ap stored_reply c.before.before.before.a.given.1)
-    (termed _ _ _ _ _ _ c.before.before.before.before.before.before.before.before.lone-terms.ensures
-    c.before.before.before.before.before.before.before.set-unchecked.ensures)) c.states-in.ensures refl)
+    (subst (CallPost _ _ _) (ap stored_reply c.in-Node.is)
+    (termed _ _ _ _ _ _ c.lone_terms.ensures
+    c.set_unchecked.ensures)) c.states_in-states.ensures refl)
     (λ c. search rules)
     (λ c. set-refused _ _ _ _
-    (subst (λ (k : ℕ). 1 ≤ k) (sym c.before.refusal-number.ensures) (refusal-some c.before.before.before.x.given.0.0))
+    (subst (λ (k : ℕ). 1 ≤ k) (sym c.refusal_number.ensures) (refusal-some c.in-Refused.x))
     (subst (CallPost _ _ _)
-    (ap stored_reply c.before.before.before.x.given.1 ∙ ap plain (sym c.before.refusal-number.ensures))
-    (termed _ _ _ _ _ _ c.before.before.before.before.before.before.before.before.lone-terms.ensures
-    c.before.before.before.before.before.before.before.set-unchecked.ensures)) c.plain.ensures))
+    (ap stored_reply c.in-Refused.is ∙ ap plain (sym c.refusal_number.ensures))
+    (termed _ _ _ _ _ _ c.lone_terms.ensures
+    c.set_unchecked.ensures)) c.plain.ensures))

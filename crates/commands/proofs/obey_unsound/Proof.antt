@@ -21,15 +21,15 @@ obey_unsound_spec =
     (λ c. search rules)
     (λ c κs. search rules)
     (λ c. search rules)
-    (λ c. λ bs size. obeys_as bs size c.before.before.before.before.before.command.given.1
-    c.before.before.obey-fresh.ensures)
-    (λ c. λ bs size. obeys_as bs size c.before.enum_told.given.1
-    (call-refused c.before.before.before.before.requires _ c.unsound.ensures))
-    (λ c. λ bs size. obeys_as bs size c.before.enum-told2.given.1
-    (call-refused c.before.before.before.before.requires _ c.unsound2.ensures))
-    (λ c. λ bs size. obeys_as bs size c.before.enum-told3.given.1
-    (call-refused c.before.before.before.before.requires _ c.unsound3.ensures))
-    (λ c. λ bs size. obeys_as bs size c.before.enum-told4.given.1
-    (count-refused c.before.before.before.before.requires _ c.unsound4.ensures))
-    (λ c. λ bs size. obeys_as bs size c.before.enum-told5.given.1
-    (call-refused c.before.before.before.before.requires _ c.unsound5.ensures)))
+    (λ c. λ bs size. obeys_as bs size c.in-Fresh.is
+    c.obey_fresh.ensures)
+    (λ c. λ bs size. obeys_as bs size c.in-Relation.is
+    (call-refused c.requires _ c.unsound.ensures))
+    (λ c. λ bs size. obeys_as bs size c.in-Set.is
+    (call-refused c.requires _ c.unsound-in-Set.ensures))
+    (λ c. λ bs size. obeys_as bs size c.in-Clear.is
+    (call-refused c.requires _ c.unsound-in-Clear.ensures))
+    (λ c. λ bs size. obeys_as bs size c.in-Count.is
+    (count-refused c.requires _ c.unsound-in-Count.ensures))
+    (λ c. λ bs size. obeys_as bs size c.in-Collect.is
+    (call-refused c.requires _ c.unsound-in-Collect.ensures)))

@@ -9,5 +9,5 @@ sound_after_spec =
     tie.close
     (tie.spec
     (λ c. search rules)
-    (λ c. after-answered _ _ c.before.if1.false c.if2.true)
-    (λ c. after-refused _ _ c.before.if1.false c.if2.false))
+    (λ c. after-answered _ _ c.if-sound.false c.if-number-eq0.true)
+    (λ c. after-refused _ _ c.if-sound.false c.if-number-eq0.false))

@@ -10,16 +10,16 @@ pub states_in_spec : {M : Type 1} → statement M
 states_in_spec =
     tie.close
     (tie.spec
-    (λ c κs. c.before.requires)
+    (λ c κs. c.requires)
     (λ c. search rules)
     (λ c. search rules)
     (λ c. (
-      c.before.before.before.count-unchecked.result,
-      c.before.before.before.count-unchecked.ensures,
-      sym (ap (λ (v : Answer). (answer_reply v).value) c.before.k.given.1),
+      c.count_unchecked.result,
+      c.count_unchecked.ensures,
+      sym (ap (λ (v : Answer). (answer_reply v).value) c.in-Value.is),
     ))
     (λ c. (
-      c.before.before.count-unchecked.result,
-      c.before.before.count-unchecked.ensures,
-      sym (ap (λ (v : Answer). (answer_reply v).value) c.enum_told.given.1),
+      c.count_unchecked.result,
+      c.count_unchecked.ensures,
+      sym (ap (λ (v : Answer). (answer_reply v).value) c.in-Refused.is),
     )))

@@ -15,18 +15,18 @@ take_record_spec =
     (λ c. search rules)
     (λ c. search rules)
     (λ c. search rules)
-    (λ c κs. let q = record-read c.before.before.before.before.before.before.before.args.bytes.now
-    c.before.before.before.before.before.before.before.args.ended _ _
-    (sym c.before.before.before.before.read-record.ensures ∙ c.before.before.command.given.1) in
-    (q.starts, q.within, c.before.before.before.before.before.before.before.requires))
-    (λ c. took c.before.before.before.before.before.args.bytes.now c.before.before.before.before.before.args.ended _ _ _
-    _ c.before.before.read-record.ensures c.enum_told.given.1 (refl, refl))
-    (λ c. took c.before.before.before.before.before.args.bytes.now c.before.before.before.before.before.args.ended _ _ _
-    _ c.before.before.read-record.ensures c.enum-told2.given.1 (refl, refl))
-    (λ c. took c.before.before.before.before.before.args.bytes.now c.before.before.before.before.before.args.ended _ _ _
-    _ c.before.before.read-record.ensures c.enum-told3.given.1 (refl, refl))
+    (λ c κs. let q = record-read c.args.bytes.now
+    c.args.ended _ _
+    (sym c.read_record.ensures ∙ c.in-Record.is) in
+    (q.starts, q.within, c.requires))
+    (λ c. took c.args.bytes.now c.args.ended _ _ _
+    _ c.read_record.ensures c.in-End.is (refl, refl))
+    (λ c. took c.args.bytes.now c.args.ended _ _ _
+    _ c.read_record.ensures c.in-More.is (refl, refl))
+    (λ c. took c.args.bytes.now c.args.ended _ _ _
+    _ c.read_record.ensures c.in-Bad.is (refl, refl))
     (λ c. search rules)
-    (λ c. took c.before.before.before.before.before.before.before.before.before.before.args.bytes.now
-    c.before.before.before.before.before.before.before.before.before.before.args.ended _ _ _ _
-    c.before.before.before.before.before.before.before.read-record.ensures
-    c.before.before.before.before.before.command.given.1 (_, refl, c.before.before.obey.ensures)))
+    (λ c. took c.args.bytes.now
+    c.args.ended _ _ _ _
+    c.read_record.ensures
+    c.in-Record.is (_, refl, c.obey-outcome.ensures)))

@@ -58,22 +58,22 @@ pub +new_part_new_row_spec : {M : Type 1} → statement M
     (new_part-at t)
     new-part.Post
     (λ c κs. search rules)
-    (λ c. constant_new _ _ _ (test_no c.before.is_row_lem.ensures c.if1.true))
-    (λ c κs. test_yes c.before.before.is_row_lem.ensures c.before.if1.false)
-    (λ c κs. let s = step _ c.before.before.before.before.before.before.requires.1
-    (test_yes c.before.before.before.is_row_lem.ensures c.before.before.if1.false) c.row_of.ensures in
-    let b = c.before.before.before.before.before.before.requires.1.base.room in let r = s.row in omega arith)
+    (λ c. constant_new _ _ _ (test_no c.is_row.ensures c.if-not-is_row.true-raw))
+    (λ c κs. test_yes c.is_row.ensures c.if-not-is_row.false-raw)
+    (λ c κs. let s = step _ c.requires.1
+    (test_yes c.is_row.ensures c.if-not-is_row.false-raw) c.row_of.ensures in
+    let b = c.requires.1.base.room in let r = s.row in omega arith)
     (λ c. search rules)
     (λ c. again_new _ _ _
-    (test_yes c.before.before.before.before.before.is_row_lem.ensures c.before.before.before.before.if1.false)
-    c.before.before.row_of.ensures (sym c.before.marked.ensures ∙ c.if2.true))
+    (test_yes c.is_row.ensures c.if-not-is_row.false-raw)
+    c.row_of.ensures (sym c.marked.ensures ∙ c.if-marked.true))
     (λ c κs. (
-      rw (← c.before.before.before.before.before.before.before.before.before.requires.0) (omega arith),
+      rw (← c.requires.0) (omega arith),
       (
-        c.before.before.before.before.before.before.before.before.before.requires.1,
-        test_yes c.before.before.before.before.before.before.is_row_lem.ensures
-            c.before.before.before.before.before.if1.false,
-        still-off _ _ c.before.before.before.row_of.ensures c.before.before.marked.ensures c.before.if2.false,
+        c.requires.1,
+        test_yes c.is_row.ensures
+            c.if-not-is_row.false-raw,
+        still-off _ _ c.row_of.ensures c.marked.ensures c.if-marked.false,
       ),
     ))
     (λ c. search rules)
@@ -90,65 +90,65 @@ pub +new_part_new_row_spec : {M : Type 1} → statement M
     )
     (new_row-at t)
     new_row.Post
-    (λ c κs. c.before.before.requires.1.1)
-    (λ c κs. let s = step _ c.before.before.before.before.requires.1.0 c.before.before.before.before.requires.1.1
-    c.before.row_of.ensures in
-    let w = c.before.before.before.before.requires.1.0.base.words in let h = s.row in (h, omega arith, w))
-    (λ c κs. let s = step _ c.before.before.before.before.before.requires.1.0 c.before.before.before.before.before.requires.1.1
-    c.before.before.row_of.ensures in
-    called s.low s.low-less c.before.before.before.before.before.requires.0 c.get.ensures refl)
-    (λ c κs. let s = step _ c.before.before.before.before.before.before.before.before.before.requires.1.0
-    c.before.before.before.before.before.before.before.before.before.requires.1.1
-    c.before.before.before.before.before.before.row_of.ensures in
-    let w = c.before.before.before.before.before.before.before.before.before.requires.1.0.base.words in
+    (λ c κs. c.requires.1.1)
+    (λ c κs. let s = step _ c.requires.1.0 c.requires.1.1
+    c.row_of-i.ensures in
+    let w = c.requires.1.0.base.words in let h = s.row in (h, omega arith, w))
+    (λ c κs. let s = step _ c.requires.1.0 c.requires.1.1
+    c.row_of-i.ensures in
+    called s.low s.low-less c.requires.0 c.get.ensures refl)
+    (λ c κs. let s = step _ c.requires.1.0
+    c.requires.1.1
+    c.row_of-i.ensures in
+    let w = c.requires.1.0.base.words in
     let h = s.row in (h, omega arith, w))
-    (λ c κs. let s = step _ c.before.before.before.before.before.before.before.before.before.before.requires.1.0
-    c.before.before.before.before.before.before.before.before.before.before.requires.1.1
-    c.before.before.before.before.before.before.before.row_of.ensures in
-    called s.high s.high-less c.before.before.before.before.before.before.before.before.before.before.requires.0
-    c.get2.ensures c.before.before.before.before.new-part.auto.1.1.0)
+    (λ c κs. let s = step _ c.requires.1.0
+    c.requires.1.1
+    c.row_of-i.ensures in
+    called s.high s.high-less c.requires.0
+    c.get-2.ensures c.new_part-low.auto.marks)
     (λ c κs. let s = step _
-    c.before.before.before.before.before.before.before.before.before.before.before.before.before.before.requires.1.0
-    c.before.before.before.before.before.before.before.before.before.before.before.before.before.before.requires.1.1
-    c.before.before.before.before.before.before.before.before.before.before.before.row_of.ensures in
+    c.requires.1.0
+    c.requires.1.1
+    c.row_of-i.ensures in
     let b =
-    c.before.before.before.before.before.before.before.before.before.before.before.before.before.before.requires.1.0.base.room in let r =
+    c.requires.1.0.base.room in let r =
     s.row in
     omega (
       arith,
-      c.before.before.before.before.before.before.before.before.new-part.auto.1.1.0,
-      c.before.before.before.new-part2.auto.1.1.0,
+      c.new_part-low.auto.marks,
+      c.new_part-high.auto.marks,
     ))
     (λ c. let l =
-    new-le c.before.before.before.before.before.before.before.before.before.before.before.before.before.before.before.before.before.requires.1.0
+    new-le c.requires.1.0
     (row_new _
-    c.before.before.before.before.before.before.before.before.before.before.before.before.before.before.before.before.before.requires.1.0
-    c.before.before.before.before.before.before.before.before.before.before.before.before.before.before.before.before.before.requires.1.1
-    c.before.before.before.before.before.before.before.before.before.before.before.before.before.before.row_of.ensures
-    c.before.before.before.before.before.before.before.before.before.before.before.before.before.before.before.before.before.requires.1.2 c.before.before.set-mark.ensures
-    c.before.before.before.before.before.before.before.before.before.before.before.new-part.ensures
-    c.before.before.before.before.before.before.before.before.before.before.before.before.get.ensures
-    c.before.before.before.before.before.before.new-part2.ensures
-    c.before.before.before.before.before.before.before.get2.ensures) in omega arith)
+    c.requires.1.0
+    c.requires.1.1
+    c.row_of-i.ensures
+    c.requires.1.2 c.set_mark.ensures
+    c.new_part-low.ensures
+    c.get.ensures
+    c.new_part-high.ensures
+    c.get-2.ensures) in omega arith)
     (λ c. let l =
-    new-le c.before.before.before.before.before.before.before.before.before.before.before.before.before.before.before.before.before.requires.1.0
+    new-le c.requires.1.0
     (row_new _
-    c.before.before.before.before.before.before.before.before.before.before.before.before.before.before.before.before.before.requires.1.0
-    c.before.before.before.before.before.before.before.before.before.before.before.before.before.before.before.before.before.requires.1.1
-    c.before.before.before.before.before.before.before.before.before.before.before.before.before.before.row_of.ensures
-    c.before.before.before.before.before.before.before.before.before.before.before.before.before.before.before.before.before.requires.1.2 c.before.before.set-mark.ensures
-    c.before.before.before.before.before.before.before.before.before.before.before.new-part.ensures
-    c.before.before.before.before.before.before.before.before.before.before.before.before.get.ensures
-    c.before.before.before.before.before.before.new-part2.ensures
-    c.before.before.before.before.before.before.before.get2.ensures) in omega arith)
-    (λ c. c.before.before.set-mark.auto.0 ∙ c.before.before.before.before.before.before.new-part2.auto.1.1.0
-    ∙ c.before.before.before.before.before.before.before.before.before.before.before.new-part.auto.1.1.0)
+    c.requires.1.0
+    c.requires.1.1
+    c.row_of-i.ensures
+    c.requires.1.2 c.set_mark.ensures
+    c.new_part-low.ensures
+    c.get.ensures
+    c.new_part-high.ensures
+    c.get-2.ensures) in omega arith)
+    (λ c. c.set_mark.auto.marks ∙ c.new_part-high.auto.marks
+    ∙ c.new_part-low.auto.marks)
     (λ c. row_new _
-    c.before.before.before.before.before.before.before.before.before.before.before.before.before.before.before.before.before.requires.1.0
-    c.before.before.before.before.before.before.before.before.before.before.before.before.before.before.before.before.before.requires.1.1
-    c.before.before.before.before.before.before.before.before.before.before.before.before.before.before.row_of.ensures
-    c.before.before.before.before.before.before.before.before.before.before.before.before.before.before.before.before.before.requires.1.2 c.before.before.set-mark.ensures
-    c.before.before.before.before.before.before.before.before.before.before.before.new-part.ensures
-    c.before.before.before.before.before.before.before.before.before.before.before.before.get.ensures
-    c.before.before.before.before.before.before.new-part2.ensures
-    c.before.before.before.before.before.before.before.get2.ensures)
+    c.requires.1.0
+    c.requires.1.1
+    c.row_of-i.ensures
+    c.requires.1.2 c.set_mark.ensures
+    c.new_part-low.ensures
+    c.get.ensures
+    c.new_part-high.ensures
+    c.get-2.ensures)

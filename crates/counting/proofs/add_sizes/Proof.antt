@@ -10,11 +10,11 @@ use borrow.Author.Rules.{rules}
 use Rattle.counting.proofs.add_sizes.Statement.{statement}
 use Rattle.counting.proofs.add_sizes.Tie as tie
 
-abbrev invariant_loop : tie.invariant_loop
+abbrev invariant_loop : tie.invariant-loop-k
 invariant_loop words rows counts₀ arrows sum most total₀ k₀ counts total k =
     (k ≤ length arrows) × (length counts ≡ length counts₀) × Summed (view rows words) counts arrows sum k total
 
-abbrev decreases_loop : tie.decreases_loop
+abbrev decreases_loop : tie.decreases-loop-k
 decreases_loop words rows counts₀ arrows sum most total₀ k₀ counts total k = length arrows - k
 
 pub add_sizes_spec : {M : Type 1} → statement M
@@ -23,31 +23,31 @@ add_sizes_spec =
     (tie.spec
     invariant_loop
     decreases_loop
-    (λ c. (omega arith, refl, summed_none c.before.before.before.requires.1))
-    (λ c. c.before.before.loop.invariant.1)
-    (λ c. summed_over c.if1.true c.before.before.loop.invariant.2)
+    (λ c. (omega arith, refl, summed_none c.requires.1))
+    (λ c. c.loop-k.invariant.1)
+    (λ c. summed_over c.if-total-most.true c.loop-k.invariant.2)
     (λ c. search rules)
     (λ c. search rules)
     (λ c κs.
     record {
       sound =
-          c.before.before.before.before.before.before.before.before.requires.0.sound;
+          c.requires.0.sound;
       arrow =
-          c.before.before.before.before.before.before.before.before.requires.0.arrows _
-          (get_or-mem _ _ c.before.before.before.loop-test.true);
-      counts = c.before.before.before.before.loop.invariant.2.counts;
+          c.requires.0.arrows _
+          (get_or-mem _ _ c.loop-k-test.true);
+      counts = c.loop-k.invariant.2.counts;
     })
     (λ c. search rules)
-    (λ c. let t = c.before.before.before.before.before.if1.false in omega arith)
+    (λ c. let t = c.if-total-most.false in omega arith)
     (λ c. search rules)
     (λ c. search rules)
-    (λ c. let v = c.before.before.before.before.before.before.before.loop.invariant in (
+    (λ c. let v = c.loop-k.invariant in (
       omega arith,
       c.before.before.type_size.auto.1.1.0 ∙ v.1,
-      summed_more c.before.before.before.before.before.before.before.before.before.before.before.requires.0.sound
-          (c.before.before.before.before.before.before.before.before.before.before.before.requires.0.arrows _
-          (get_or-mem _ _ c.before.before.before.before.before.before.loop-test.true))
-          c.before.before.before.before.before.before.loop-test.true v.2 c.before.before.type_size.ensures,
+      summed_more c.requires.0.sound
+          (c.requires.0.arrows _
+          (get_or-mem _ _ c.loop-k-test.true))
+          c.loop-k-test.true v.2 c.before.before.type_size.ensures,
     ))
-    (λ c. c.before.loop.invariant.1)
-    (λ c. summed_all _ c.loop-test.false c.before.loop.invariant.2))
+    (λ c. c.loop-k.invariant.1)
+    (λ c. summed_all _ c.loop-k-test.false c.loop-k.invariant.2))

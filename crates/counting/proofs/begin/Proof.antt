@@ -8,28 +8,28 @@ pub begin_spec : {M : Type 1} → statement M
 begin_spec =
     tie.close
     (tie.spec
-    (λ c. let l = blank-size c.before.before.requires.1 in omega arith)
-    (λ c. blank-marks c.before.before.before.requires.1)
-    (λ c κs. filled-pre c.before.before.before.requires.0 c.before.before.before.requires.1)
-    (λ c. let l = marked-size c.before.before.before.before.before.before.requires.0
-    c.before.before.before.before.before.before.requires.1 c.before.before.mark-filled.auto.1.1.0
-    c.before.before.mark-filled.ensures in omega arith)
-    (λ c. front_size c.before.before.before.before.before.before.before.requires.0
-    c.before.before.before.before.before.before.before.requires.1 c.before.before.before.mark-filled.auto.1.1.0
-    c.before.before.before.mark-filled.ensures)
-    (λ c κs. let l = front_size c.before.before.before.before.before.before.before.requires.0
-    c.before.before.before.before.before.before.before.requires.1 c.before.before.before.mark-filled.auto.1.1.0
-    c.before.before.before.mark-filled.ensures in
-    let z = c.before.before.before.before.before.before.before.requires.0.good.sizes in
-    (c.before.before.before.before.before.before.before.requires.0.good.ranked, omega arith, z.room))
-    (λ c. let l = marked-size c.before.before.before.before.before.before.before.before.requires.0
-    c.before.before.before.before.before.before.before.before.requires.1
-    c.before.before.before.before.mark-filled.auto.1.1.0 c.before.before.before.before.mark-filled.ensures in
+    (λ c. let l = blank-size c.requires.1 in omega arith)
+    (λ c. blank-marks c.requires.1)
+    (λ c κs. filled-pre c.requires.0 c.requires.1)
+    (λ c. let l = marked-size c.requires.0
+    c.requires.1 c.mark_filled.auto.marks
+    c.mark_filled.ensures in omega arith)
+    (λ c. front_size c.requires.0
+    c.requires.1 c.mark_filled.auto.marks
+    c.mark_filled.ensures)
+    (λ c κs. let l = front_size c.requires.0
+    c.requires.1 c.mark_filled.auto.marks
+    c.mark_filled.ensures in
+    let z = c.requires.0.good.sizes in
+    (c.requires.0.good.ranked, omega arith, z.room))
+    (λ c. let l = marked-size c.requires.0
+    c.requires.1
+    c.mark_filled.auto.marks c.mark_filled.ensures in
     omega arith)
-    (λ c. written-size c.before.before.before.before.before.before.before.before.requires.0
-    c.before.before.before.before.before.before.before.before.requires.1
-    c.before.before.before.before.mark-filled.auto.1.1.0 c.before.before.before.before.mark-filled.ensures _)
-    (λ c. begun c.before.before.before.before.before.before.before.before.requires.0
-    c.before.before.before.before.before.before.before.before.requires.1
-    c.before.before.before.before.mark-filled.auto.1.1.0 c.before.before.before.before.mark-filled.ensures
-    c.count-marks.ensures))
+    (λ c. written-size c.requires.0
+    c.requires.1
+    c.mark_filled.auto.marks c.mark_filled.ensures _)
+    (λ c. begun c.requires.0
+    c.requires.1
+    c.mark_filled.auto.marks c.mark_filled.ensures
+    c.count_marks-number.ensures))

@@ -10,15 +10,15 @@ count_live_spec =
     (tie.spec
     (λ c. search rules)
     (λ c κs. (
-      c.before.before.before.before.before.before.requires.0,
-      c.before.before.before.before.before.before.requires.1,
-      few-room c.before.if1.true,
+      c.requires.0,
+      c.requires.1,
+      few-room c.if-rows-le-ROWS.true,
     ))
     (λ c. search rules)
     (λ c. search rules)
     (λ c κs. (
-      c.before.before.before.before.before.before.requires.0,
-      c.before.before.before.before.before.before.requires.1,
-      all_room c.before.before.before.before.before.before.requires.0.sound,
+      c.requires.0,
+      c.requires.1,
+      all_room c.requires.0.sound,
     ))
     (λ c. search rules))

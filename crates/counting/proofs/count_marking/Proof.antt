@@ -14,60 +14,60 @@ count_marking_spec =
     tie.close
     (tie.spec
     (λ c κs.
-    (c.before.before.before.before.before.before.requires.1.size, c.before.before.before.before.before.before.requires.2.most))
-    (λ c. let l = c.before.before.before.before.before.before.before.before.before.before.requires.1.size in omega arith)
+    (c.requires.1.size, c.requires.2.most))
+    (λ c. let l = c.requires.1.size in omega arith)
     (λ c κs.
     record {
-      base = rw c.before.before.before.before.copy-marks.auto.1.0
-          (room-base c.before.before.before.before.before.before.before.before.before.before.before.requires.0.sound
-          c.before.before.before.before.before.before.before.before.before.before.before.requires.2);
+      base = rw c.copy_marks.auto.marks
+          (room-base c.requires.0.sound
+          c.requires.2);
       arrow =
-          λ a h. c.before.before.before.before.before.before.before.before.before.before.before.requires.0.arrows a
-          (append_left c.before.before.before.before.before.before.before.before.before.before.before.args.more.now h);
+          λ a h. c.requires.0.arrows a
+          (append_left c.args.more.now h);
     })
     (λ c κs.
     record {
       base = rw (
-        c.before.before.before.list_new.auto.1.1.0,
-        c.before.before.before.before.before.before.before.before.copy-marks.auto.1.0,
+        c.list_new-first.auto.marks,
+        c.copy_marks.auto.marks,
       )
           (room-base
-          c.before.before.before.before.before.before.before.before.before.before.before.before.before.before.before.requires.0.sound
-          c.before.before.before.before.before.before.before.before.before.before.before.before.before.before.before.requires.2);
+          c.requires.0.sound
+          c.requires.2);
       arrow =
-          λ a h. c.before.before.before.before.before.before.before.before.before.before.before.before.before.before.before.requires.0.arrows a
+          λ a h. c.requires.0.arrows a
           (append_right
-          c.before.before.before.before.before.before.before.before.before.before.before.before.before.before.before.args.roots.now h);
+          c.args.roots.now h);
     })
     (λ c. let l =
     live-le
-    c.before.before.before.before.before.before.before.before.before.before.before.before.before.before.before.before.before.before.requires.0
+    c.requires.0
     (live-counted _ _
     (base_copied
-    c.before.before.before.before.before.before.before.before.before.before.before.before.before.before.before.before.before.before.requires.0.sound
-    c.before.before.before.before.before.before.before.before.before.before.before.before.before.before.before.before.before.before.requires.1
-    c.before.before.before.before.before.before.before.before.before.before.before.before.before.before.before.before.before.before.requires.2
-    c.before.before.before.before.before.before.before.before.before.before.before.copy-marks.ensures)
-    c.before.before.before.before.before.before.before.before.before.before.before.before.before.before.before.before.before.before.requires.1.number c.before.before.before.before.before.before.list_new.ensures
-    c.before.before.list-new2.ensures) in omega arith)
+    c.requires.0.sound
+    c.requires.1
+    c.requires.2
+    c.copy_marks.ensures)
+    c.requires.1.number c.list_new-first.ensures
+    c.list_new-second.ensures) in omega arith)
     (λ c. let l =
     live-le
-    c.before.before.before.before.before.before.before.before.before.before.before.before.before.before.before.before.before.before.requires.0
+    c.requires.0
     (live-counted _ _
     (base_copied
-    c.before.before.before.before.before.before.before.before.before.before.before.before.before.before.before.before.before.before.requires.0.sound
-    c.before.before.before.before.before.before.before.before.before.before.before.before.before.before.before.before.before.before.requires.1
-    c.before.before.before.before.before.before.before.before.before.before.before.before.before.before.before.before.before.before.requires.2
-    c.before.before.before.before.before.before.before.before.before.before.before.copy-marks.ensures)
-    c.before.before.before.before.before.before.before.before.before.before.before.before.before.before.before.before.before.before.requires.1.number c.before.before.before.before.before.before.list_new.ensures
-    c.before.before.list-new2.ensures) in omega arith)
-    (λ c. c.before.before.list-new2.auto.1.1.0 ∙ c.before.before.before.before.before.before.list_new.auto.1.1.0
-    ∙ c.before.before.before.before.before.before.before.before.before.before.before.copy-marks.auto.1.0)
+    c.requires.0.sound
+    c.requires.1
+    c.requires.2
+    c.copy_marks.ensures)
+    c.requires.1.number c.list_new-first.ensures
+    c.list_new-second.ensures) in omega arith)
+    (λ c. c.list_new-second.auto.marks ∙ c.list_new-first.auto.marks
+    ∙ c.copy_marks.auto.marks)
     (λ c. live-counted _ _
     (base_copied
-    c.before.before.before.before.before.before.before.before.before.before.before.before.before.before.before.before.before.before.requires.0.sound
-    c.before.before.before.before.before.before.before.before.before.before.before.before.before.before.before.before.before.before.requires.1
-    c.before.before.before.before.before.before.before.before.before.before.before.before.before.before.before.before.before.before.requires.2
-    c.before.before.before.before.before.before.before.before.before.before.before.copy-marks.ensures)
-    c.before.before.before.before.before.before.before.before.before.before.before.before.before.before.before.before.before.before.requires.1.number c.before.before.before.before.before.before.list_new.ensures
-    c.before.before.list-new2.ensures))
+    c.requires.0.sound
+    c.requires.1
+    c.requires.2
+    c.copy_marks.ensures)
+    c.requires.1.number c.list_new-first.ensures
+    c.list_new-second.ensures))

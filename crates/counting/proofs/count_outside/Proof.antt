@@ -9,8 +9,8 @@ count_outside_spec =
     tie.close
     (tie.spec
     (λ c. search rules)
-    (λ c κs. (c.before.before.before.before.requires, few-room c.before.if1.true))
+    (λ c κs. (c.requires, few-room c.if-rows-le-ROWS.true))
     (λ c. search rules)
     (λ c. search rules)
-    (λ c κs. (c.before.before.before.before.requires, all_room c.before.before.before.before.requires.sound))
+    (λ c κs. (c.requires, all_room c.requires.sound))
     (λ c. search rules))

@@ -9,5 +9,5 @@ pub greater_spec : {M : Type 1} → statement M
 greater_spec =
     tie.close
     (tie.spec
-    (λ c. let t = c.if1.true in sym (max-eq_right (omega arith)))
-    (λ c. let t = c.if1.false in sym (max-eq_left (omega arith))))
+    (λ c. let t = c.if-a-b.true in sym (max-eq_right (omega arith)))
+    (λ c. let t = c.if-a-b.false in sym (max-eq_left (omega arith))))

@@ -11,11 +11,11 @@ use borrow.Author.Rules.{rules}
 use Rattle.counting.proofs.list_new.Statement.{statement}
 use Rattle.counting.proofs.list_new.Tie as tie
 
-abbrev invariant_loop : tie.invariant_loop
+abbrev invariant_loop : tie.invariant-loop-k
 invariant_loop words rows marks₀ roots found₀ k₀ marks found k =
     (k ≤ length roots) × (length marks ≡ length marks₀) × FirstNew (rows_of (view rows words)) marks₀ marks roots k found
 
-abbrev decreases_loop : tie.decreases_loop
+abbrev decreases_loop : tie.decreases-loop-k
 decreases_loop words rows marks₀ roots found₀ k₀ marks found k = length roots - k
 
 pub list_new_spec : {M : Type 1} → statement M
@@ -27,18 +27,18 @@ list_new_spec =
     (λ c. (omega arith, refl, first-none _ _))
     (λ c. search rules)
     (λ c. search rules)
-    (λ c κs. let p = c.before.before.before.before.before.before.before.requires in
-    let v = c.before.before.before.loop.invariant in
-    rw v.1 (record { base = p.base; arrow = p.arrow _ (get_or-mem _ _ c.before.before.loop-test.true) }))
-    (λ c. let l = first-le c.before.before.before.before.before.before.before.before.before.before.requires
-    (first_more c.before.before.before.before.before.loop-test.true
-    c.before.before.before.before.before.before.loop.invariant.2 c.before.before.mark-new.ensures) in omega arith)
+    (λ c κs. let p = c.requires in
+    let v = c.loop-k.invariant in
+    rw v.1 (record { base = p.base; arrow = p.arrow _ (get_or-mem _ _ c.loop-k-test.true) }))
+    (λ c. let l = first-le c.requires
+    (first_more c.loop-k-test.true
+    c.loop-k.invariant.2 c.mark_new-found.ensures) in omega arith)
     (λ c. search rules)
     (λ c. search rules)
-    (λ c. let v = c.before.before.before.before.before.before.loop.invariant in (
+    (λ c. let v = c.loop-k.invariant in (
       omega arith,
-      c.before.before.mark-new.auto.1.1.0 ∙ v.1,
-      first_more c.before.before.before.before.before.loop-test.true v.2 c.before.before.mark-new.ensures,
+      c.mark_new-found.auto.marks ∙ v.1,
+      first_more c.loop-k-test.true v.2 c.mark_new-found.ensures,
     ))
-    (λ c. c.before.loop.invariant.1)
-    (λ c. first-all _ c.loop-test.false c.before.loop.invariant.2))
+    (λ c. c.loop-k.invariant.1)
+    (λ c. first-all _ c.loop-k-test.false c.loop-k.invariant.2))

@@ -11,31 +11,31 @@ pub mark_live_spec : {M : Type 1} → statement M
 mark_live_spec =
     tie.close
     (tie.spec
-    (λ c κs. (c.before.before.before.before.before.requires.1.size, c.before.before.before.before.before.requires.2.most))
-    (λ c. let l = c.before.before.before.before.before.before.before.before.before.requires.1.size in omega arith)
+    (λ c κs. (c.requires.1.size, c.requires.2.most))
+    (λ c. let l = c.requires.1.size in omega arith)
     (λ c κs.
     record {
-      base = rw c.before.before.before.before.copy-marks.auto.1.0
-          (room-base c.before.before.before.before.before.before.before.before.before.before.requires.0.sound
-          c.before.before.before.before.before.before.before.before.before.before.requires.2);
-      arrow = c.before.before.before.before.before.before.before.before.before.before.requires.0.arrows;
+      base = rw c.copy_marks.auto.marks
+          (room-base c.requires.0.sound
+          c.requires.2);
+      arrow = c.requires.0.arrows;
     })
     (λ c. let l =
-    live-le c.before.before.before.before.before.before.before.before.before.before.before.before.before.requires.0
+    live-le c.requires.0
     (live-marked
     (base_copied
-    c.before.before.before.before.before.before.before.before.before.before.before.before.before.requires.0.sound
-    c.before.before.before.before.before.before.before.before.before.before.before.before.before.requires.1
-    c.before.before.before.before.before.before.before.before.before.before.before.before.before.requires.2
-    c.before.before.before.before.before.before.before.copy-marks.ensures)
-    c.before.before.before.before.before.before.before.before.before.before.before.before.before.requires.1.number
-    c.before.before.list_new.ensures).number in omega arith)
-    (λ c. c.before.before.list_new.auto.1.1.0 ∙ c.before.before.before.before.before.before.before.copy-marks.auto.1.0)
+    c.requires.0.sound
+    c.requires.1
+    c.requires.2
+    c.copy_marks.ensures)
+    c.requires.1.number
+    c.list_new.ensures).number in omega arith)
+    (λ c. c.list_new.auto.marks ∙ c.copy_marks.auto.marks)
     (λ c. live-marked
     (base_copied
-    c.before.before.before.before.before.before.before.before.before.before.before.before.before.requires.0.sound
-    c.before.before.before.before.before.before.before.before.before.before.before.before.before.requires.1
-    c.before.before.before.before.before.before.before.before.before.before.before.before.before.requires.2
-    c.before.before.before.before.before.before.before.copy-marks.ensures)
-    c.before.before.before.before.before.before.before.before.before.before.before.before.before.requires.1.number
-    c.before.before.list_new.ensures))
+    c.requires.0.sound
+    c.requires.1
+    c.requires.2
+    c.copy_marks.ensures)
+    c.requires.1.number
+    c.list_new.ensures))

@@ -10,32 +10,32 @@ pub note_spec : {M : Type 1} → statement M
 note_spec =
     tie.close
     (tie.spec
-    (λ c κs. let z = c.before.before.before.requires.0.sound.good.sizes.room in omega arith)
-    (λ c. note-used c.before.before.before.before.before.requires.0 c.before.before.before.before.before.requires.1
-    c.before.header-word.ensures c.if1.true)
+    (λ c κs. let z = c.requires.0.sound.good.sizes.room in omega arith)
+    (λ c. note-used c.requires.0 c.requires.1
+    c.header_word.ensures c.if-header_word-peak.true)
     (λ c κs. search rules)
     (λ c. search rules)
     (λ c κs. (
-      free-pre c.before.before.operands_of.ensures.0 c.before.before.operands_of.ensures.1
-          c.before.before.before.before.before.before.before.before.requires.0,
-      c.before.before.before.before.before.before.before.before.requires.1,
+      free-pre c.operands_of-p.ensures.0 c.operands_of-p.ensures.1
+          c.requires.0,
+      c.requires.1,
     ))
     (λ c. search rules)
-    (λ c. note-within c.before.before.before.before.before.before.before.before.before.before.before.before.requires.0
-    c.before.before.before.before.before.before.operands_of.ensures.0
-    c.before.before.before.before.before.before.operands_of.ensures.1 c.before.before.before.sizes-within.ensures
-    c.if2.true)
+    (λ c. note-within c.requires.0
+    c.operands_of-p.ensures.0
+    c.operands_of-p.ensures.1 c.sizes_within.ensures
+    c.if-sizes_within.true)
     (λ c. search rules)
     (λ c κs. (
-      free-pre c.before.before.before.before.before.before.before.before.operands_of.ensures.0
-          c.before.before.before.before.before.before.before.before.operands_of.ensures.1
-          c.before.before.before.before.before.before.before.before.before.before.before.before.before.before.requires.0,
-      c.before.before.before.before.before.sizes-within.ensures.counts.base,
+      free-pre c.operands_of-p.ensures.0
+          c.operands_of-p.ensures.1
+          c.requires.0,
+      c.sizes_within.ensures.counts.base,
     ))
     (λ c κs. search rules)
     (λ c. search rules)
     (λ c. note-counted
-    c.before.before.before.before.before.before.before.before.before.before.before.before.before.before.before.before.requires.0 c.before.before.before.before.before.before.before.before.before.before.operands_of.ensures.0
-    c.before.before.before.before.before.before.before.before.before.before.operands_of.ensures.1 _
-    c.before.before.before.before.before.before.before.sizes-within.ensures.counts c.before.count-live.ensures
+    c.requires.0 c.operands_of-p.ensures.0
+    c.operands_of-p.ensures.1 _
+    c.sizes_within.ensures.counts c.count_live.ensures
     c.greater.ensures))

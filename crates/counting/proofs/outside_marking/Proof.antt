@@ -9,17 +9,17 @@ pub outside_marking_spec : {M : Type 1} → statement M
 outside_marking_spec =
     tie.close
     (tie.spec
-    (λ c κs. (c.before.before.before.before.requires.0.counts.base.size, c.before.before.before.before.requires.1.most))
+    (λ c κs. (c.requires.0.counts.base.size, c.requires.1.most))
     (λ c κs.
     record {
-      base = rw c.before.before.before.copy-marks.auto.1.0
-          (room-base c.before.before.before.before.before.before.before.before.requires.0.sound
-          c.before.before.before.before.before.before.before.before.requires.1);
-      arrow = c.before.before.before.before.before.before.before.before.requires.0.arrow;
+      base = rw c.copy_marks.auto.marks
+          (room-base c.requires.0.sound
+          c.requires.1);
+      arrow = c.requires.0.arrow;
     })
-    (λ c. c.before.before.mark-new.auto.1.1.0 ∙ c.before.before.before.before.before.before.copy-marks.auto.1.0)
+    (λ c. c.mark_new.auto.marks ∙ c.copy_marks.auto.marks)
     (λ c. outside-counted
-    (base_copied c.before.before.before.before.before.before.before.before.before.before.before.requires.0.sound
-    c.before.before.before.before.before.before.before.before.before.before.before.requires.0.counts.base
-    c.before.before.before.before.before.before.before.before.before.before.before.requires.1
-    c.before.before.before.before.before.before.copy-marks.ensures) c.before.before.mark-new.ensures))
+    (base_copied c.requires.0.sound
+    c.requires.0.counts.base
+    c.requires.1
+    c.copy_marks.ensures) c.mark_new.ensures))

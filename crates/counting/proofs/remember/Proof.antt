@@ -10,10 +10,10 @@ remember_spec =
     tie.close
     (tie.spec
     (λ c κs. search rules)
-    (λ c. let q = c.place.ensures in omega arith)
-    (λ c. let q = c.place.ensures in let h = c.before.before.requires in omega arith)
-    (λ c. let q = c.place.ensures in omega arith)
-    (λ c. let q = c.place.ensures in omega arith)
-    (λ c. let q = c.place.ensures in let h = c.before.before.requires in simp length-set (omega arith))
+    (λ c. let q = c.place-at.ensures in omega arith)
+    (λ c. let q = c.place-at.ensures in let h = c.requires in omega arith)
+    (λ c. let q = c.place-at.ensures in omega arith)
+    (λ c. let q = c.place-at.ensures in omega arith)
+    (λ c. let q = c.place-at.ensures in let h = c.requires in simp length-set (omega arith))
     (λ c. search rules)
-    (λ c. rw c.place.ensures))
+    (λ c. rw c.place-at.ensures))

@@ -11,31 +11,31 @@ size_of_spec =
     tie.close
     (tie.spec
     (λ c κs. search rules)
-    (λ c. size_constant c.before.before.before.before.requires (test_no c.before.is_row_lem.ensures c.if1.true))
-    (λ c κs. test_yes c.before.before.is_row_lem.ensures c.before.if1.false)
-    (λ c κs. let l = size-row c.before.before.before.before.before.before.requires
-    (test_yes c.before.before.before.is_row_lem.ensures c.before.before.if1.false) c.row_of.ensures in
-    let s = c.before.before.before.before.before.before.requires.counts.base.size in omega arith)
+    (λ c. size_constant c.requires (test_no c.is_row.ensures c.if-not-is_row.true-raw))
+    (λ c κs. test_yes c.is_row.ensures c.if-not-is_row.false-raw)
+    (λ c κs. let l = size-row c.requires
+    (test_yes c.is_row.ensures c.if-not-is_row.false-raw) c.row_of.ensures in
+    let s = c.requires.counts.base.size in omega arith)
     (λ c. search rules)
-    (λ c. size-base c.before.before.before.before.before.before.before.before.requires
-    (test_yes c.before.before.before.before.before.is_row_lem.ensures c.before.before.before.before.if1.false)
-    c.before.before.row_of.ensures c.before.marked.ensures c.if2.true)
+    (λ c. size-base c.requires
+    (test_yes c.is_row.ensures c.if-not-is_row.false-raw)
+    c.row_of.ensures c.marked.ensures c.if-marked.true)
     (λ c κs. search rules)
-    (λ c. let q = c.place.ensures in omega arith)
-    (λ c. let q = c.before.place.ensures in
-    let s = c.before.before.before.before.before.before.before.before.before.before.requires.counts.base.size in omega arith)
-    (λ c. let q = c.before.before.place.ensures in omega arith)
-    (λ c. let q = c.before.before.place.ensures in omega arith)
-    (λ c. let q = c.before.before.before.place.ensures in
+    (λ c. let q = c.place-at.ensures in omega arith)
+    (λ c. let q = c.place-at.ensures in
+    let s = c.requires.counts.base.size in omega arith)
+    (λ c. let q = c.place-at.ensures in omega arith)
+    (λ c. let q = c.place-at.ensures in omega arith)
+    (λ c. let q = c.place-at.ensures in
     let s =
-    c.before.before.before.before.before.before.before.before.before.before.before.before.requires.counts.base.size in
+    c.requires.counts.base.size in
     omega arith)
     (λ c. search rules)
-    (λ c. size-seen c.before.before.before.before.before.before.before.before.before.before.before.before.requires
-    c.before.before.before.place.ensures c.before.if3.true)
-    (λ c κs. c.before.before.before.before.before.before.before.before.before.before.before.before.requires)
+    (λ c. size-seen c.requires
+    c.place-at.ensures c.if-counts-at.true)
+    (λ c κs. c.requires)
     (λ c κs.
-    c.before.before.before.before.before.before.before.before.before.before.before.before.before.before.requires.counts.base.size)
+    c.requires.counts.base.size)
     (λ c. search rules)
     (λ c. size-counted
-    c.before.before.before.before.before.before.before.before.before.before.before.before.before.before.before.before.before.requires c.before.before.before.before.count-outside.ensures c.before.before.remember.ensures))
+    c.requires c.count_outside-size.ensures c.remember.ensures))

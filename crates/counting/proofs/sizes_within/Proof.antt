@@ -12,36 +12,36 @@ pub sizes_within_spec : {M : Type 1} → statement M
 sizes_within_spec =
     tie.close
     (tie.spec
-    (λ c. let l = c.before.before.before.before.before.requires.1.base.size in omega arith)
-    (λ c. let l = number-le c.before.before.before.before.before.requires.0.sound
-    c.before.before.before.before.before.requires.1.base in omega arith)
+    (λ c. let l = c.requires.1.base.size in omega arith)
+    (λ c. let l = number-le c.requires.0.sound
+    c.requires.1.base in omega arith)
     (λ c κs. (
       record {
         sound =
-            c.before.before.before.before.before.before.requires.0.sound;
+            c.requires.0.sound;
         arrows =
-            λ a h. c.before.before.before.before.before.before.requires.0.arrows a
-            (append_left c.before.before.before.before.before.before.args.more.now h);
+            λ a h. c.requires.0.arrows a
+            (append_left c.args.more.now h);
       },
-      c.before.before.before.before.before.before.requires.1,
+      c.requires.1,
     ))
     (λ c κs. (
       record {
         sound =
-            c.before.before.before.before.before.before.before.before.before.before.requires.0.sound;
+            c.requires.0.sound;
         arrows =
-            λ a h. c.before.before.before.before.before.before.before.before.before.before.requires.0.arrows a
-            (append_right c.before.before.before.before.before.before.before.before.before.before.args.roots.now h);
+            λ a h. c.requires.0.arrows a
+            (append_right c.args.roots.now h);
       },
-      c.before.before.before.add-sizes.ensures.counts,
+      c.add_sizes-first.ensures.counts,
     ))
-    (λ c. c.before.before.before.add-sizes2.auto.1.1.0
-    ∙ c.before.before.before.before.before.before.before.add-sizes.auto.1.1.0)
+    (λ c. c.add_sizes-second.auto.counts
+    ∙ c.add_sizes-first.auto.counts)
     (λ c. within-yes
-    c.before.before.before.before.before.before.before.before.before.before.before.before.before.before.requires.0.sound
-    c.before.before.before.before.before.before.before.before.before.before.before.before.before.before.requires.1
-    c.before.before.before.before.before.before.before.add-sizes.ensures c.before.before.before.add-sizes2.ensures
-    c.if1.true)
-    (λ c. c.before.before.before.add-sizes2.auto.1.1.0
-    ∙ c.before.before.before.before.before.before.before.add-sizes.auto.1.1.0)
-    (λ c. within-no c.before.before.before.add-sizes2.ensures))
+    c.requires.0.sound
+    c.requires.1
+    c.add_sizes-first.ensures c.add_sizes-second.ensures
+    c.if-second-most.true)
+    (λ c. c.add_sizes-second.auto.counts
+    ∙ c.add_sizes-first.auto.counts)
+    (λ c. within-no c.add_sizes-second.ensures))

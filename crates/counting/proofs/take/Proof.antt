@@ -8,23 +8,23 @@ pub take_spec : {M : Type 1} → statement M
 take_spec =
     tie.close
     (tie.spec
-    (λ c κs. c.before.before.before.before.before.requires)
+    (λ c κs. c.requires)
     (λ c. search rules)
     (λ c. search rules)
     (λ c. search rules)
     (λ c. search rules)
-    (λ c. taken-full c.before.before.before.before.before.before.take_counted.ensures
-    c.before.before.before.before.before.before.before.before.before.before.before.before.args.count
-    c.enum_told.given.1)
+    (λ c. taken-full c.take_counted.ensures
+    c.args.count
+    c.in_default.is)
     (λ c κs. (
-      note-pre c.before.before.before.before.before.before.before.before.before.take_counted.ensures
-          c.before.before.before.a.given.1,
-      c.before.before.before.before.before.before.before.before.before.take_counted.ensures.counts,
+      note-pre c.take_counted.ensures
+          c.in-At.is,
+      c.take_counted.ensures.counts,
     ))
     (λ c. search rules)
     (λ c. search rules)
     (λ c. taken_at
-    c.before.before.before.before.before.before.before.before.before.before.before.before.take_counted.ensures
-    c.before.before.before.before.before.before.a.given.1
-    c.before.before.before.before.before.before.before.before.before.before.before.before.before.before.before.before.before.before.args.count
-    c.before.before.before.before.before.before.before.before.before.before.before.before.before.before.before.before.before.before.requires.0 c.before.before.note.ensures))
+    c.take_counted.ensures
+    c.in-At.is
+    c.args.count
+    c.requires.0 c.note-p.ensures))

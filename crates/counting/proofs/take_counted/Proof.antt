@@ -10,43 +10,43 @@ pub take_counted_spec : {M : Type 1} → statement M
 take_counted_spec =
     tie.close
     (tie.spec
-    (λ c κs. (c.before.before.before.before.requires.0.ready, c.before.before.before.before.requires.0.fits))
+    (λ c κs. (c.requires.0.ready, c.requires.0.fits))
     (λ c. search rules)
-    (λ c κs. let z = (first-pre c.before.before.before.before.before.before.before.before.before.before.before.requires.0
-    c.before.before.before.before.before.before.try-step.ensures
-    c.before.before.made.given.1).sound.good.sizes.room in omega arith)
+    (λ c κs. let z = (first-pre c.requires.0
+    c.try_step-made.ensures
+    c.in-At.is).sound.good.sizes.room in omega arith)
     (λ c. search rules)
-    (λ c. counted-few c.before.before.before.before.before.before.before.before.before.before.before.before.before.requires.0
-    c.before.before.before.before.before.before.before.before.before.before.before.before.before.requires.1
-    c.before.before.before.before.made.given.1
-    c.before.before.before.before.before.before.before.before.try-step.ensures c.before.header-word.ensures
-    c.if1.true)
+    (λ c. counted-few c.requires.0
+    c.requires.1
+    c.in-At.is
+    c.try_step-made.ensures c.header_word.ensures
+    c.if-header_word-limit.true)
     (λ c κs.
-    c.before.before.before.before.before.before.before.before.before.before.before.before.before.before.requires.1.base.size)
+    c.requires.1.base.size)
     (λ c κs. first-pre
-    c.before.before.before.before.before.before.before.before.before.before.before.before.before.before.before.before.before.before.requires.0
-    c.before.before.before.before.before.before.before.before.before.before.before.before.before.try-step.ensures
-    c.before.before.before.before.before.before.before.before.before.made.given.1)
+    c.requires.0
+    c.try_step-made.ensures
+    c.in-At.is)
     (λ c. search rules)
-    (λ c κs. c.before.before.before.before.before.before.before.before.before.before.requires.1.base.size)
+    (λ c κs. c.requires.1.base.size)
     (λ c κs. again_pre
-    c.before.before.before.before.before.before.before.before.before.before.before.before.before.before.requires.0
-    c.before.before.before.before.before.before.before.before.before.try-step.ensures)
+    c.requires.0
+    c.try_step-made.ensures)
     (λ c. search rules)
     (λ c. search rules)
     (λ c. counted-freed
-    c.before.before.before.before.before.before.before.before.before.before.before.before.before.before.before.before.before.before.before.before.before.requires.0
-    c.before.before.before.before.before.before.before.before.before.before.before.before.before.before.before.before.before.before.before.before.before.requires.1 c.before.before.before.before.before.before.forget-sizes.ensures
+    c.requires.0
+    c.requires.1 c.forget_sizes.ensures
     (stepped-first
-    c.before.before.before.before.before.before.before.before.before.before.before.before.before.before.before.before.before.before.before.before.before.requires.0
-    c.before.before.before.before.before.before.before.before.before.before.before.before.made.given.1
-    c.before.before.before.before.before.before.before.before.before.before.before.before.before.before.before.before.try-step.ensures c.before.before.settle.ensures))
+    c.requires.0
+    c.in-At.is
+    c.try_step-made.ensures c.settle.ensures))
     (λ c. search rules)
     (λ c. search rules)
     (λ c. counted-freed
-    c.before.before.before.before.before.before.before.before.before.before.before.before.before.before.before.before.before.requires.0
-    c.before.before.before.before.before.before.before.before.before.before.before.before.before.before.before.before.before.requires.1 c.before.before.before.before.before.before.forget-sizes2.ensures
+    c.requires.0
+    c.requires.1 c.forget_sizes-in-Full.ensures
     (stepped_again
-    c.before.before.before.before.before.before.before.before.before.before.before.before.before.before.before.before.before.requires.0 c.before.before.before.before.before.before.before.before.enum_told.given.1
-    c.before.before.before.before.before.before.before.before.before.before.before.before.try-step.ensures
-    c.before.before.retry.ensures)))
+    c.requires.0 c.in-Full.is
+    c.try_step-made.ensures
+    c.retry.ensures)))

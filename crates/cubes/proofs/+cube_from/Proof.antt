@@ -38,36 +38,36 @@ pub +cube_from_spec : {M : Type 1} → statement M
 )
     (cube_from-at t)
     cube-from.Post
-    (λ c. let h = cube-levels c.before.requires.1 in let g = c.before.requires.1.within in omega arith)
-    (λ c. cube-ends c.before.before.requires.1 c.if1.true)
-    (λ c. let h = cube-levels c.before.before.before.requires.1 in let g = c.before.before.before.requires.1.within in omega arith)
-    (λ c κs. let h = cube-levels c.before.before.before.requires.1 in let g = c.before.if1.false in
-    (omega (arith, c.before.before.before.requires.0, h, g), cube-next c.before.before.before.requires.1 c.before.if1.false))
+    (λ c. let h = cube-levels c.requires.1 in let g = c.requires.1.within in omega arith)
+    (λ c. cube-ends c.requires.1 c.if-levels-p.true)
+    (λ c. let h = cube-levels c.requires.1 in let g = c.requires.1.within in omega arith)
+    (λ c κs. let h = cube-levels c.requires.1 in let g = c.if-levels-p.false in
+    (omega (arith, c.requires.0, h, g), cube-next c.requires.1 c.if-levels-p.false))
     (λ c. search rules)
-    (λ c. rest-full c.before.before.before.before.before.before.before.requires.1
-    c.before.before.before.before.before.if1.false c.if2.true c.before.before.before.cube-from.ensures)
-    (λ c κs. let h = cube-levels c.before.before.before.before.before.before.before.requires.1 in
-    let g = c.before.before.before.before.before.before.before.requires.1.within in omega arith)
+    (λ c. rest-full c.requires.1
+    c.if-levels-p.false c.if-a.true c.cube_from-a.ensures)
+    (λ c κs. let h = cube-levels c.requires.1 in
+    let g = c.requires.1.within in omega arith)
     (λ c κs. search rules)
-    (λ c κs. let h = cube-levels c.before.before.before.before.before.before.before.before.before.requires.1 in
-    let g = c.before.before.before.before.before.before.before.before.before.requires.1.within in omega arith)
+    (λ c κs. let h = cube-levels c.requires.1 in
+    let g = c.requires.1.within in omega arith)
     (λ c κs. search rules)
     (λ c. let h = cube-levels
-    c.before.before.before.before.before.before.before.before.before.before.before.before.requires.1 in
-    let g = c.before.before.before.before.before.before.before.before.before.before.before.before.requires.1.within in
+    c.requires.1 in
+    let g = c.requires.1.within in
     omega arith)
-    (λ c κs. rest-asks c.before.before.before.before.before.before.before.before.before.before.before.before.requires.1
-    c.before.before.before.before.before.before.before.before.before.before.if1.false
-    c.before.before.before.before.before.if2.false
-    c.before.before.before.before.before.before.before.before.cube-from.ensures
-    c.before.before.before.before.has.ensures c.before.before.before.unless.ensures c.before.before.has2.ensures
-    c.before.unless2.ensures)
+    (λ c κs. rest-asks c.requires.1
+    c.if-levels-p.false
+    c.if-a.false
+    c.cube_from-a.ensures
+    c.has.ensures c.unless-low.ensures c.has-2.ensures
+    c.unless-high.ensures)
     (λ c. search rules)
     (λ c. rest-made
-    c.before.before.before.before.before.before.before.before.before.before.before.before.before.before.before.requires.1
-    c.before.before.before.before.before.before.before.before.before.before.before.before.before.if1.false
-    c.before.before.before.before.before.before.before.before.if2.false
-    c.before.before.before.before.before.before.before.before.before.before.before.cube-from.ensures
-    c.before.before.before.before.before.before.before.has.ensures
-    c.before.before.before.before.before.before.unless.ensures c.before.before.before.before.before.has2.ensures
-    c.before.before.before.before.unless2.ensures c.before.before.make.ensures)
+    c.requires.1
+    c.if-levels-p.false
+    c.if-a.false
+    c.cube_from-a.ensures
+    c.has.ensures
+    c.unless-low.ensures c.has-2.ensures
+    c.unless-high.ensures c.make.ensures)

@@ -12,10 +12,10 @@ pub cube_spec : {M : Type 1} → statement M
 cube_spec =
     tie.close
     (tie.spec
-    (λ c. cube_clash c.before.before.requires _ _ c.if1.true)
+    (λ c. cube_clash c.requires _ _ c.if-ones-zeros-ne0.true)
     (λ c. search rules)
-    (λ c. cube-beyond c.before.before.before.requires _ _ c.if2.true)
-    (λ c κs. cube-starts c.before.before.before.before.requires _ _ c.before.before.if1.false)
+    (λ c. cube-beyond c.requires _ _ c.if-ones-levels-ne0.true)
+    (λ c κs. cube-starts c.requires _ _ c.if-ones-zeros-ne0.false)
     (λ c. search rules)
-    (λ c. cube-whole c.before.before.before.before.before.before.before.requires _ _
-    c.before.before.before.before.if2.false c.before.before.cube-from.ensures))
+    (λ c. cube-whole c.requires _ _
+    c.if-ones-levels-ne0.false c.cube_from.ensures))

@@ -85,11 +85,11 @@ abbrev μ-round : Measures 4 round-kinds.ps ℕ
 abbrev μ-turn : Measures 4 turn-kinds.ps ℕ
 μ-turn κs a = 5 * a.1.1.1.1.1.0.depth + 3
 
-abbrev bind_Inv_loop : bind-lts.invariant_loop
+abbrev bind_Inv_loop : bind-lts.invariant-loop-counted
 bind_Inv_loop words₀ counts₀ stack₀ bytes limits here body held current₀ counted₀ words counts stack current counted =
     Looping limits words₀ words counts₀ counts stack₀ stack bytes here body current counted
 
-abbrev bind_μ_loop : bind-lts.decreases_loop
+abbrev bind_μ_loop : bind-lts.decreases-loop-counted
 bind_μ_loop words₀ counts₀ stack₀ bytes limits here body held current₀ counted₀ words counts stack current counted =
     limits.rounds - counted.rounds
 
@@ -113,100 +113,100 @@ pub +bind_both_eval_keep_modal_negate_round_turn_spec : {M : Type 1} → stateme
     bind.Post
     bind_Inv_loop
     bind_μ_loop
-    (λ c κs. start-asked c.before.before.before.before.before.requires.1.0)
+    (λ c κs. start-asked c.requires.1.0)
     (λ c κs. search rules)
-    (λ c. loop-starts c.before.before.before.before.before.before.before.before.requires.1.1 c.before.before.root-arrow.result
-    c.before.before.root-arrow.ensures c.before.start_of_lem.ensures)
+    (λ c. loop-starts c.requires.1.1 c.root_arrow.result
+    c.root_arrow.ensures c.start_of-current.ensures)
     (λ c. search rules)
     (λ c. omega (
       arith,
-      c.before.before.before.before.before.before.before.before.before.before.before.before.requires.1.0.room,
-      c.before.before.before.before.before.before.before.before.before.before.before.before.requires.1.0.ready.size,
-      c.before.before.before.loop.invariant.stack_size_lem,
+      c.requires.1.0.room,
+      c.requires.1.0.ready.size,
+      c.loop-counted.invariant.stack_size_lem,
     ))
     (λ c κs. search rules)
     (λ c κs. search rules)
     (λ c κs. omega (
       arith,
-      c.before.before.before.before.before.before.before.before.before.before.before.before.before.before.requires.1.0.room,
+      c.requires.1.0.room,
     ))
     (λ c κs. (
       omega (
         arith,
-        same-depth c.before.before.before.opened.ensures,
-        c.before.before.before.before.before.before.before.before.before.before.before.before.before.before.before.before.before.before.requires.0,
+        same-depth c.opened-inner.ensures,
+        c.requires.0,
       ),
       (
         body-asked
-            c.before.before.before.before.before.before.before.before.before.before.before.before.before.before.before.before.before.before.requires.1.0 c.before.before.before.before.before.before.before.before.before.loop.invariant
-            c.before.before.before.opened.ensures c.before.before.before.before.before.variable-of.ensures
-            c.before.before.before.before.another-round.ensures,
-        c.before.before.before.before.before.before.before.before.before.loop.invariant.counts_of,
+            c.requires.1.0 c.loop-counted.invariant
+            c.opened-inner.ensures c.variable_of.ensures
+            c.another_round.ensures,
+        c.loop-counted.invariant.counts_of,
       ),
     ))
     (λ c. search rules)
-    (λ c. c.before.before.before.before.before.before.before.turn.auto.0
-    ∙ c.before.before.before.before.before.before.before.before.before.before.before.before.before.before.before.before.before.loop.invariant.words_size)
-    (λ c. c.before.before.before.before.before.before.before.turn.auto.1.0
-    ∙ c.before.before.before.before.before.before.before.before.before.before.before.before.before.before.before.before.before.loop.invariant.counts-size)
-    (λ c. (simp length-set at c.before.before.before.before.before.before.before.turn.auto.1.1.0)
-    ∙ c.before.before.before.before.before.before.before.before.before.before.before.before.before.before.before.before.before.loop.invariant.stack_size_lem)
+    (λ c. c.turn-value.auto.words
+    ∙ c.loop-counted.invariant.words_size)
+    (λ c. c.turn-value.auto.counts
+    ∙ c.loop-counted.invariant.counts-size)
+    (λ c. (simp length-set at c.turn-value.auto.stack)
+    ∙ c.loop-counted.invariant.stack_size_lem)
     (λ c. (
       body_halts
-          c.before.before.before.before.before.before.before.before.before.before.before.before.before.before.before.before.before.before.before.before.before.before.before.before.before.before.requires.1.0
-          c.before.before.before.before.before.before.before.before.before.before.before.before.before.before.before.before.before.loop.invariant c.before.before.before.before.before.before.before.before.before.before.before.opened.ensures
-          c.before.before.before.before.before.before.before.before.before.before.before.before.before.variable-of.ensures
-          c.before.before.before.before.before.before.before.before.before.before.before.before.another-round.ensures
-          c.before.before.before.before.before.before.before.turn.ensures.0
-          c.before.before.before.before.before.before.before.before.before.before.before.before.before.before.if1.true
-          c.match.keys2,
-      c.before.before.before.before.before.before.before.turn.ensures.1,
+          c.requires.1.0
+          c.loop-counted.invariant c.opened-inner.ensures
+          c.variable_of.ensures
+          c.another_round.ensures
+          c.turn-value.ensures.0
+          c.loop-counted-test.true
+          c.in_default.in_default-own.keys2,
+      c.turn-value.ensures.1,
     ))
-    (λ c. c.before.before.before.before.before.before.before.before.before.before.turn.auto.0
-    ∙ c.before.before.before.before.before.before.before.before.before.before.before.before.before.before.before.before.before.before.before.before.loop.invariant.words_size)
-    (λ c. c.before.before.before.before.before.before.before.before.before.before.turn.auto.1.0
-    ∙ c.before.before.before.before.before.before.before.before.before.before.before.before.before.before.before.before.before.before.before.before.loop.invariant.counts-size)
-    (λ c. (simp length-set at c.before.before.before.before.before.before.before.before.before.before.turn.auto.1.1.0)
-    ∙ c.before.before.before.before.before.before.before.before.before.before.before.before.before.before.before.before.before.before.before.before.loop.invariant.stack_size_lem)
+    (λ c. c.turn-value.auto.words
+    ∙ c.loop-counted.invariant.words_size)
+    (λ c. c.turn-value.auto.counts
+    ∙ c.loop-counted.invariant.counts-size)
+    (λ c. (simp length-set at c.turn-value.auto.stack)
+    ∙ c.loop-counted.invariant.stack_size_lem)
     (λ c. (
       body_same
-          c.before.before.before.before.before.before.before.before.before.before.before.before.before.before.before.before.before.before.before.before.before.before.before.before.before.before.before.before.before.requires.1.0
-          c.before.before.before.before.before.before.before.before.before.before.before.before.before.before.before.before.before.before.before.before.loop.invariant
-          c.before.before.before.before.before.before.before.before.before.before.before.before.before.before.opened.ensures
-          c.before.before.before.before.before.before.before.before.before.before.before.before.before.before.before.before.variable-of.ensures
-          c.before.before.before.before.before.before.before.before.before.before.before.before.before.before.before.another-round.ensures c.before.before.before.before.before.before.before.before.before.before.turn.ensures.0
-          c.before.before.before.before.before.before.before.before.before.before.before.before.before.before.before.before.before.if1.true c.before.before.value.given.1 c.if2.true,
-      c.before.before.before.before.before.before.before.before.before.before.turn.ensures.1,
+          c.requires.1.0
+          c.loop-counted.invariant
+          c.opened-inner.ensures
+          c.variable_of.ensures
+          c.another_round.ensures c.turn-value.ensures.0
+          c.loop-counted-test.true c.in-Value.is c.if-a-current.true,
+      c.turn-value.ensures.1,
     ))
     (λ c. omega (
       arith,
       body_less
-          c.before.before.before.before.before.before.before.before.before.before.before.before.before.before.before.before.before.before.before.before.before.before.before.before.before.before.before.before.before.requires.1.0
-          c.before.before.before.before.before.before.before.before.before.before.before.before.before.before.before.before.before.before.before.before.loop.invariant
-          c.before.before.before.before.before.before.before.before.before.before.before.before.before.before.opened.ensures
-          c.before.before.before.before.before.before.before.before.before.before.before.before.before.before.before.before.variable-of.ensures
-          c.before.before.before.before.before.before.before.before.before.before.before.before.before.before.before.another-round.ensures c.before.before.before.before.before.before.before.before.before.before.turn.ensures.0
-          c.before.before.before.before.before.before.before.before.before.before.before.before.before.before.before.before.before.if1.true c.before.before.value.given.1,
-      c.before.before.before.before.before.before.before.before.before.before.before.before.before.before.before.before.before.if1.true,
+          c.requires.1.0
+          c.loop-counted.invariant
+          c.opened-inner.ensures
+          c.variable_of.ensures
+          c.another_round.ensures c.turn-value.ensures.0
+          c.loop-counted-test.true c.in-Value.is,
+      c.loop-counted-test.true,
     ))
     (λ c. loop-turns
-    c.before.before.before.before.before.before.before.before.before.before.before.before.before.before.before.before.before.before.before.before.before.before.before.before.before.before.before.before.before.requires.1.0
-    c.before.before.before.before.before.before.before.before.before.before.before.before.before.before.before.before.before.before.before.before.loop.invariant
-    c.before.before.before.before.before.before.before.before.before.before.before.before.before.before.opened.ensures
-    c.before.before.before.before.before.before.before.before.before.before.before.before.before.before.before.before.variable-of.ensures
-    c.before.before.before.before.before.before.before.before.before.before.before.before.before.before.before.another-round.ensures c.before.before.before.before.before.before.before.before.before.before.turn.ensures.0
-    c.before.before.before.before.before.before.before.before.before.before.before.before.before.before.before.before.before.if1.true c.before.before.value.given.1 c.if2.false _ refl
-    c.before.before.before.before.before.before.before.before.before.before.turn.ensures.1
-    c.before.before.before.before.before.before.before.before.before.before.turn.auto.0
-    c.before.before.before.before.before.before.before.before.before.before.turn.auto.1.0
-    c.before.before.before.before.before.before.before.before.before.before.turn.auto.1.1.0)
-    (λ c. c.before.before.before.loop.invariant.words_size)
-    (λ c. c.before.before.before.loop.invariant.counts-size)
-    (λ c. c.before.before.before.loop.invariant.stack_size_lem)
+    c.requires.1.0
+    c.loop-counted.invariant
+    c.opened-inner.ensures
+    c.variable_of.ensures
+    c.another_round.ensures c.turn-value.ensures.0
+    c.loop-counted-test.true c.in-Value.is c.if-a-current.false _ refl
+    c.turn-value.ensures.1
+    c.turn-value.auto.words
+    c.turn-value.auto.counts
+    c.turn-value.auto.stack)
+    (λ c. c.loop-counted.invariant.words_size)
+    (λ c. c.loop-counted.invariant.counts-size)
+    (λ c. c.loop-counted.invariant.stack_size_lem)
     (λ c. (
-      rounds_out c.before.before.before.before.before.before.before.before.before.before.before.before.requires.1.0
-          c.before.before.before.loop.invariant c.if1.false,
-      c.before.before.before.loop.invariant.counts_of,
+      rounds_out c.requires.1.0
+          c.loop-counted.invariant c.loop-counted-test.false,
+      c.loop-counted.invariant.counts_of,
     )))
     (λ t. both-lts.spec (
       below eval-kinds.ps μ-eval eval.Pre t,
@@ -219,10 +219,10 @@ pub +bind_both_eval_keep_modal_negate_round_turn_spec : {M : Type 1} → stateme
     (at both-kinds.ps μ-both both.Pre t)
     both.Post
     (λ c κs. (
-      omega (arith, c.before.before.before.before.before.before.before.requires.0),
+      omega (arith, c.requires.0),
       (
-        first-asked c.before.before.before.before.before.before.before.requires.1.0,
-        c.before.before.before.before.before.before.before.requires.1.1,
+        first-asked c.requires.1.0,
+        c.requires.1.1,
       ),
     ))
     (λ c. search rules)
@@ -231,65 +231,65 @@ pub +bind_both_eval_keep_modal_negate_round_turn_spec : {M : Type 1} → stateme
     (λ c. search rules)
     (λ c. (
       first_halts
-          c.before.before.before.before.before.before.before.before.before.before.before.before.before.before.before.requires.1.0 c.before.before.before.before.before.before.before.eval.ensures.0 c.match.keys2
-          c.before.before.before.before.before.before.before.before.before.before.before.before.before.before.before.args.j,
-      c.before.before.before.before.before.before.before.eval.ensures.1,
+          c.requires.1.0 c.eval-first.ensures.0 c.in_default.in_default-own.keys2
+          c.args.j,
+      c.eval-first.ensures.1,
     ))
     (λ c. search rules)
     (λ c. omega (
       arith,
-      c.before.before.before.before.before.before.before.before.before.before.before.before.before.before.before.before.before.requires.1.0.room,
-      c.before.before.before.before.before.before.before.before.before.before.before.before.before.before.before.before.before.requires.1.0.ready.size,
-      c.before.before.before.before.before.before.before.before.before.eval.auto.1.1.0,
+      c.requires.1.0.room,
+      c.requires.1.0.ready.size,
+      c.eval-first.auto.stack,
     ))
     (λ c κs. omega (
       arith,
-      c.before.before.before.before.before.before.before.before.before.before.before.before.before.before.before.before.before.requires.1.0.room,
+      c.requires.1.0.room,
     ))
     (λ c κs. (
       omega (
         arith,
-        same-depth c.before.before.before.onward.ensures,
-        c.before.before.before.before.before.before.before.before.before.before.before.before.before.before.before.before.before.before.before.before.before.requires.0,
+        same-depth c.onward-rest.ensures,
+        c.requires.0,
       ),
       (
         second-asked
-            c.before.before.before.before.before.before.before.before.before.before.before.before.before.before.before.before.before.before.before.before.before.requires.1.0
-            c.before.before.before.before.before.before.before.before.before.before.before.before.before.eval.ensures.0
-            c.before.before.before.before.before.before.before.before.before.before.before.before.before.eval.auto.1.1.0
-            c.before.before.before.before.before.first.given.1 c.before.before.before.onward.ensures,
-        c.before.before.before.before.before.before.before.before.before.before.before.before.before.eval.ensures.1,
+            c.requires.1.0
+            c.eval-first.ensures.0
+            c.eval-first.auto.stack
+            c.in-Value.is c.onward-rest.ensures,
+        c.eval-first.ensures.1,
       ),
     ))
     (λ c κs. (
       joined-asked
-          c.before.before.before.before.before.before.before.before.before.before.before.before.before.before.before.before.before.before.before.before.before.before.before.before.before.before.before.before.before.before.before.requires.1.0
-          c.before.before.before.before.before.before.before.before.before.before.before.before.before.before.before.before.before.before.before.before.before.before.before.eval.ensures.0
-          c.before.before.before.before.before.before.before.before.before.before.before.before.before.before.before.before.before.before.before.before.before.before.before.eval.auto.1.1.0
-          c.before.before.before.before.before.before.before.before.before.before.before.before.before.before.before.first.given.1
-          c.before.before.before.before.before.before.before.before.before.before.before.before.before.onward.ensures
-          c.before.before.before.before.before.before.before.before.before.eval2.ensures.0
-          c.before.before.before.before.before.before.before.before.before.eval2.auto.1.1.0
-          c.before.before.before.before.before.before.before.before.before.before.before.before.before.before.before.before.before.before.before.before.before.before.before.before.before.before.before.before.before.before.before.args.j,
-      c.before.before.before.before.before.before.before.before.before.eval2.ensures.1,
+          c.requires.1.0
+          c.eval-first.ensures.0
+          c.eval-first.auto.stack
+          c.in-Value.is
+          c.onward-rest.ensures
+          c.eval-second.ensures.0
+          c.eval-second.auto.stack
+          c.args.j,
+      c.eval-second.ensures.1,
     ))
-    (λ c. c.before.before.before.before.joined.auto.0
-    ∙ c.before.before.before.before.before.before.before.before.before.before.before.before.before.before.eval2.auto.0
-    ∙ c.before.before.before.before.before.before.before.before.before.before.before.before.before.before.before.before.before.before.before.before.before.before.before.before.before.before.before.before.eval.auto.0)
-    (λ c. c.before.before.before.before.joined.auto.1.0
-    ∙ c.before.before.before.before.before.before.before.before.before.before.before.before.before.before.eval2.auto.1.0 ∙ c.before.before.before.before.before.before.before.before.before.before.before.before.before.before.before.before.before.before.before.before.before.before.before.before.before.before.before.before.eval.auto.1.0)
+    (λ c. c.joined.auto.words
+    ∙ c.eval-second.auto.words
+    ∙ c.eval-first.auto.words)
+    (λ c. c.joined.auto.counts
+    ∙ c.eval-second.auto.counts ∙ c.eval-first.auto.counts)
     (λ c. (simp length-set at
-    c.before.before.before.before.before.before.before.before.before.before.before.before.before.before.eval2.auto.1.1.0)
-    ∙ c.before.before.before.before.before.before.before.before.before.before.before.before.before.before.before.before.before.before.before.before.before.before.before.before.before.before.before.before.eval.auto.1.1.0)
+    c.eval-second.auto.stack)
+    ∙ c.eval-first.auto.stack)
     (λ c. (
       joined-answered
-          c.before.before.before.before.before.before.before.before.before.before.before.before.before.before.before.before.before.before.before.before.before.before.before.before.before.before.before.before.before.before.before.before.before.before.before.before.requires.1.0
-          c.before.before.before.before.before.before.before.before.before.before.before.before.before.before.before.before.before.before.before.before.before.before.before.before.before.before.before.before.eval.ensures.0
-          c.before.before.before.before.before.before.before.before.before.before.before.before.before.before.before.before.before.before.before.before.before.before.before.before.before.before.before.before.eval.auto.1.1.0
-          c.before.before.before.before.before.before.before.before.before.before.before.before.before.before.before.before.before.before.before.before.first.given.1
-          c.before.before.before.before.before.before.before.before.before.before.before.before.before.before.before.before.before.before.onward.ensures
-          c.before.before.before.before.before.before.before.before.before.before.before.before.before.before.eval2.ensures.0 c.before.before.before.before.before.before.before.before.before.before.before.before.before.before.eval2.auto.1.1.0 c.before.before.before.before.joined.ensures.0,
-      c.before.before.before.before.joined.ensures.1,
+          c.requires.1.0
+          c.eval-first.ensures.0
+          c.eval-first.auto.stack
+          c.in-Value.is
+          c.onward-rest.ensures
+          c.eval-second.ensures.0 c.eval-second.auto.stack c.joined.ensures.0,
+      c.joined.ensures.1,
     )))
     (λ t. eval-lts.spec (
       lead-at-reads.Asked,
@@ -315,23 +315,23 @@ pub +bind_both_eval_keep_modal_negate_round_turn_spec : {M : Type 1} → stateme
     (λ c. search rules)
     (λ c. search rules)
     (λ c. absurd
-    (read-token c.before.before.before.before.before.before.before.requires.1.0.part.stands
-    c.before.before.lead-at.ensures c.enum_told.given.1))
+    (read-token c.requires.1.0.part.stands
+    c.lead_at.ensures c.in_default.is))
     (λ c. omega (
       arith,
-      read-inside c.before.before.before.before.before.before.before.before.before.requires.1.0.part.stands
-          c.before.before.before.before.lead-at.ensures c.before.before.t.given.1,
+      read-inside c.requires.1.0.part.stands
+          c.lead_at.ensures c.in-Is.is,
       c.before.before.before.before.before.before.before.before.before.well-formed,
     ))
     (λ c. omega
-    (arith, read-depth c.before.before.before.before.before.before.before.before.before.before.requires.1.0.part.stands))
+    (arith, read-depth c.requires.1.0.part.stands))
     (λ c. search rules)
     (λ c κs. (
       leaf-asked
-          c.before.before.before.before.before.before.before.before.before.before.before.before.before.before.before.before.requires.1.0 c.before.before.before.before.before.before.before.before.before.before.before.lead-at.ensures
-          c.before.before.before.before.before.before.before.before.before.t.given.1
-          c.before.before.before.before.t2.given.1,
-      c.before.before.before.before.before.before.before.before.before.before.before.before.before.before.before.before.requires.1.1,
+          c.requires.1.0 c.lead_at.ensures
+          c.in-Is.is
+          c.in-Leaf.is,
+      c.requires.1.1,
     ))
     (λ c κs. search rules)
     (λ c. search rules)
@@ -339,27 +339,27 @@ pub +bind_both_eval_keep_modal_negate_round_turn_spec : {M : Type 1} → stateme
     (λ c. search rules)
     (λ c. (
       leaf-answered
-          c.before.before.before.before.before.before.before.before.before.before.before.before.before.before.before.before.before.before.before.before.before.before.requires.1.0
-          c.before.before.before.before.before.before.before.before.before.before.before.before.before.before.before.before.before.lead-at.ensures
-          c.before.before.before.before.before.before.before.before.before.before.before.before.before.before.before.t.given.1 c.before.before.before.before.before.before.before.before.before.before.t2.given.1
-          c.before.before.before.before.before.leaf.ensures.0 c.answer.ensures,
-      c.before.before.before.before.before.leaf.ensures.1,
+          c.requires.1.0
+          c.lead_at.ensures
+          c.in-Is.is c.in-Leaf.is
+          c.leaf.ensures.0 c.answer.ensures,
+      c.leaf.ensures.1,
     ))
     (λ c. search rules)
     (λ c κs. (
       let d =
           read-depth
-          c.before.before.before.before.before.before.before.before.before.before.before.before.before.before.before.requires.1.0.part.stands in
+          c.requires.1.0.part.stands in
           omega (
             arith,
-            c.before.before.before.before.before.before.before.before.before.before.before.before.before.before.before.requires.0,
+            c.requires.0,
           ),
       (
         not-asked
-            c.before.before.before.before.before.before.before.before.before.before.before.before.before.before.before.requires.1.0 c.before.before.before.before.before.before.before.before.before.before.lead-at.ensures
-            c.before.before.before.before.before.before.before.before.t.given.1
-            c.before.before.before.enum-told2.given.1,
-        c.before.before.before.before.before.before.before.before.before.before.before.before.before.before.before.requires.1.1,
+            c.requires.1.0 c.lead_at.ensures
+            c.in-Is.is
+            c.in-Not.is,
+        c.requires.1.1,
       ),
     ))
     (λ c. search rules)
@@ -367,29 +367,29 @@ pub +bind_both_eval_keep_modal_negate_round_turn_spec : {M : Type 1} → stateme
     (λ c. search rules)
     (λ c. (
       not-answered
-          c.before.before.before.before.before.before.before.before.before.before.before.before.before.before.before.before.before.before.before.before.before.before.requires.1.0
-          c.before.before.before.before.before.before.before.before.before.before.before.before.before.before.before.before.before.lead-at.ensures
-          c.before.before.before.before.before.before.before.before.before.before.before.before.before.before.before.t.given.1 c.before.before.before.before.before.before.before.before.before.before.enum-told2.given.1
-          c.before.before.before.before.before.before.negate.ensures.0,
-      c.before.before.before.before.before.before.negate.ensures.1,
+          c.requires.1.0
+          c.lead_at.ensures
+          c.in-Is.is c.in-Not.is
+          c.negate.ensures.0,
+      c.negate.ensures.1,
     ))
     (λ c. search rules)
     (λ c. search rules)
     (λ c κs. (
       let d =
           read-depth
-          c.before.before.before.before.before.before.before.before.before.before.before.before.before.before.before.before.before.before.before.requires.1.0.part.stands in
+          c.requires.1.0.part.stands in
           omega (
             arith,
-            c.before.before.before.before.before.before.before.before.before.before.before.before.before.before.before.before.before.before.before.requires.0,
+            c.requires.0,
           ),
       (
         both-asked
-            c.before.before.before.before.before.before.before.before.before.before.before.before.before.before.before.before.before.before.before.requires.1.0
-            c.before.before.before.before.before.before.before.before.before.before.before.before.before.before.lead-at.ensures c.before.before.before.before.before.before.before.before.before.before.before.before.t.given.1
-            (c.before.before.before.before.before.before.before.t3.given.1
-            ∙ ap Both c.before.before.before.before.w.given.1),
-        c.before.before.before.before.before.before.before.before.before.before.before.before.before.before.before.before.before.before.before.requires.1.1,
+            c.requires.1.0
+            c.lead_at.ensures c.in-Is.is
+            (c.in-Both.is
+            ∙ ap Both c.in-Join.is),
+        c.requires.1.1,
       ),
     ))
     (λ c. search rules)
@@ -397,13 +397,13 @@ pub +bind_both_eval_keep_modal_negate_round_turn_spec : {M : Type 1} → stateme
     (λ c. search rules)
     (λ c. (
       both-answered
-          c.before.before.before.before.before.before.before.before.before.before.before.before.before.before.before.before.before.before.before.before.before.before.before.before.before.before.requires.1.0
-          c.before.before.before.before.before.before.before.before.before.before.before.before.before.before.before.before.before.before.before.before.before.lead-at.ensures
-          c.before.before.before.before.before.before.before.before.before.before.before.before.before.before.before.before.before.before.before.t.given.1
-          (c.before.before.before.before.before.before.before.before.before.before.before.before.before.before.t3.given.1
-          ∙ ap Both c.before.before.before.before.before.before.before.before.before.before.before.w.given.1)
-          c.before.before.before.before.before.before.both.ensures.0,
-      c.before.before.before.before.before.before.both.ensures.1,
+          c.requires.1.0
+          c.lead_at.ensures
+          c.in-Is.is
+          (c.in-Both.is
+          ∙ ap Both c.in-Join.is)
+          c.both.ensures.0,
+      c.both.ensures.1,
     ))
     (λ c. search rules)
     (λ c κs. search rules)
@@ -411,17 +411,17 @@ pub +bind_both_eval_keep_modal_negate_round_turn_spec : {M : Type 1} → stateme
     (λ c κs. (
       let d =
           read-depth
-          c.before.before.before.before.before.before.before.before.before.before.before.before.before.before.before.before.requires.1.0.part.stands in
+          c.requires.1.0.part.stands in
           omega (
             arith,
-            c.before.before.before.before.before.before.before.before.before.before.before.before.before.before.before.before.requires.0,
+            c.requires.0,
           ),
       (
         mode_asked
-            c.before.before.before.before.before.before.before.before.before.before.before.before.before.before.before.before.requires.1.0 c.before.before.before.before.before.before.before.before.before.before.before.lead-at.ensures
-            c.before.before.before.before.before.before.before.before.before.t.given.1
-            c.before.before.before.before.t4.given.1,
-        c.before.before.before.before.before.before.before.before.before.before.before.before.before.before.before.before.requires.1.1,
+            c.requires.1.0 c.lead_at.ensures
+            c.in-Is.is
+            c.in-Modal.is,
+        c.requires.1.1,
       ),
     ))
     (λ c. search rules)
@@ -429,34 +429,34 @@ pub +bind_both_eval_keep_modal_negate_round_turn_spec : {M : Type 1} → stateme
     (λ c. search rules)
     (λ c. (
       mode_answered
-          c.before.before.before.before.before.before.before.before.before.before.before.before.before.before.before.before.before.before.before.before.before.before.before.requires.1.0
-          c.before.before.before.before.before.before.before.before.before.before.before.before.before.before.before.before.before.before.lead-at.ensures
-          c.before.before.before.before.before.before.before.before.before.before.before.before.before.before.before.before.t.given.1 c.before.before.before.before.before.before.before.before.before.before.before.t4.given.1
-          c.before.before.before.before.before.before.modal.ensures.0,
-      c.before.before.before.before.before.before.modal.ensures.1,
+          c.requires.1.0
+          c.lead_at.ensures
+          c.in-Is.is c.in-Modal.is
+          c.modal.ensures.0,
+      c.modal.ensures.1,
     ))
     (λ c. search rules)
     (λ c κs. (
       let d =
           read-depth
-          c.before.before.before.before.before.before.before.before.before.before.before.before.before.before.requires.1.0.part.stands in
+          c.requires.1.0.part.stands in
           omega (
             arith,
-            c.before.before.before.before.before.before.before.before.before.before.before.before.before.before.requires.0,
+            c.requires.0,
           ),
       (
         ⊎_elim
             (λ w. until-asked
-            c.before.before.before.before.before.before.before.before.before.before.before.before.before.before.requires.1.0
-            c.before.before.before.before.before.before.before.before.before.lead-at.ensures
-            c.before.before.before.before.before.before.before.t.given.1 (w.1.given.1 ∙ ap Both w.4.given.1) w.7
+            c.requires.1.0
+            c.lead_at.ensures
+            c.in-Is.is (w.1.given.1 ∙ ap Both w.4.given.1) w.7
             w.6.ensures)
             (λ w. bind-asked
-            c.before.before.before.before.before.before.before.before.before.before.before.before.before.before.requires.1.0
-            c.before.before.before.before.before.before.before.before.before.lead-at.ensures
-            c.before.before.before.before.before.before.before.t.given.1 w.1.given.1 w.3)
-            c.before.before.before.match2.branch,
-        c.before.before.before.before.before.before.before.before.before.before.before.before.before.before.requires.1.1,
+            c.requires.1.0
+            c.lead_at.ensures
+            c.in-Is.is w.1.given.1 w.3)
+            c.match-t.branch,
+        c.requires.1.1,
       ),
     ))
     (λ c. search rules)
@@ -465,18 +465,18 @@ pub +bind_both_eval_keep_modal_negate_round_turn_spec : {M : Type 1} → stateme
     (λ c. (
       ⊎_elim
           (λ w. until-answered
-          c.before.before.before.before.before.before.before.before.before.before.before.before.before.before.before.before.before.before.before.before.before.requires.1.0
-          c.before.before.before.before.before.before.before.before.before.before.before.before.before.before.before.before.lead-at.ensures
-          c.before.before.before.before.before.before.before.before.before.before.before.before.before.before.t.given.1
+          c.requires.1.0
+          c.lead_at.ensures
+          c.in-Is.is
           (w.1.given.1 ∙ ap Both w.4.given.1) w.7 w.6.ensures
-          c.before.before.before.before.before.before.bind.ensures.0)
+          c.bind.ensures.0)
           (λ w. bind-answered
-          c.before.before.before.before.before.before.before.before.before.before.before.before.before.before.before.before.before.before.before.before.before.requires.1.0
-          c.before.before.before.before.before.before.before.before.before.before.before.before.before.before.before.before.lead-at.ensures
-          c.before.before.before.before.before.before.before.before.before.before.before.before.before.before.t.given.1
-          w.1.given.1 w.3 c.before.before.before.before.before.before.bind.ensures.0)
-          c.before.before.before.before.before.before.before.before.before.before.match2.branch,
-      c.before.before.before.before.before.before.bind.ensures.1,
+          c.requires.1.0
+          c.lead_at.ensures
+          c.in-Is.is
+          w.1.given.1 w.3 c.bind.ensures.0)
+          c.match-t.branch,
+      c.bind.ensures.1,
     )))
     (λ t. keep-lts.spec (
       below eval-kinds.ps μ-eval eval.Pre t,
@@ -491,10 +491,10 @@ pub +bind_both_eval_keep_modal_negate_round_turn_spec : {M : Type 1} → stateme
     (at keep-kinds.ps μ-keep keep.Pre t)
     keep.Post
     (λ c κs. (
-      omega (arith, c.before.before.before.before.before.before.before.requires.0),
+      omega (arith, c.requires.0),
       (
-        kept-asked c.before.before.before.before.before.before.before.requires.1.0,
-        c.before.before.before.before.before.before.before.requires.1.1,
+        kept-asked c.requires.1.0,
+        c.requires.1.1,
       ),
     ))
     (λ c. search rules)
@@ -503,59 +503,59 @@ pub +bind_both_eval_keep_modal_negate_round_turn_spec : {M : Type 1} → stateme
     (λ c. search rules)
     (λ c. (
       keep_halts
-          c.before.before.before.before.before.before.before.before.before.before.before.before.before.before.before.requires.1.0 c.before.before.before.before.before.before.before.eval.ensures.0 c.match.keys2
-          c.before.before.before.before.before.before.before.before.before.before.before.before.before.before.before.args.m
-          c.before.before.before.before.before.before.before.before.before.before.before.before.before.before.before.args.end,
-      c.before.before.before.before.before.before.before.eval.ensures.1,
+          c.requires.1.0 c.eval-first.ensures.0 c.in_default.in_default-own.keys2
+          c.args.m
+          c.args.end,
+      c.eval-first.ensures.1,
     ))
     (λ c. search rules)
     (λ c. omega (
       arith,
       keep-room
-          c.before.before.before.before.before.before.before.before.before.before.before.before.before.before.before.before.before.requires.1.0 c.before.before.before.before.before.before.before.before.before.eval.ensures.0,
-      c.before.before.before.before.before.before.before.before.before.before.before.before.before.before.before.before.before.requires.1.0.ready.size,
-      c.before.before.before.before.before.before.before.before.before.eval.auto.1.1.0,
+          c.requires.1.0 c.eval-first.ensures.0,
+      c.requires.1.0.ready.size,
+      c.eval-first.auto.stack,
     ))
     (λ c κs. omega (
       arith,
       keep-room
-          c.before.before.before.before.before.before.before.before.before.before.before.before.before.before.before.before.before.requires.1.0 c.before.before.before.before.before.before.before.before.before.eval.ensures.0,
+          c.requires.1.0 c.eval-first.ensures.0,
     ))
     (λ c κs. (
       further-asked
-          c.before.before.before.before.before.before.before.before.before.before.before.before.before.before.before.before.before.before.before.before.before.requires.1.0
-          c.before.before.before.before.before.before.before.before.before.before.before.before.before.eval.ensures.0
-          c.before.before.before.before.before.before.before.before.before.before.before.before.before.eval.auto.1.1.0
-          c.before.before.before.before.before.first.given.1 c.before.before.before.onward.ensures,
-      c.before.before.before.before.before.before.before.before.before.before.before.before.before.eval.ensures.1,
+          c.requires.1.0
+          c.eval-first.ensures.0
+          c.eval-first.auto.stack
+          c.in-Value.is c.onward-rest.ensures,
+      c.eval-first.ensures.1,
     ))
     (λ c κs. (
       keep-asked
-          c.before.before.before.before.before.before.before.before.before.before.before.before.before.before.before.before.before.before.before.before.before.before.before.before.before.before.before.before.before.before.before.requires.1.0
-          c.before.before.before.before.before.before.before.before.before.before.before.before.before.before.before.before.before.before.before.before.before.before.before.eval.ensures.0
-          c.before.before.before.before.before.before.before.before.before.before.before.before.before.before.before.before.before.before.before.before.before.before.before.eval.auto.1.1.0
-          c.before.before.before.before.before.before.before.before.before.before.before.before.before.before.before.first.given.1
-          c.before.before.before.before.before.before.before.before.before.before.before.before.before.onward.ensures
-          c.before.before.before.before.before.before.before.before.before.further.ensures.0
-          c.before.before.before.before.before.before.before.before.before.further.auto.1.1.0,
-      c.before.before.before.before.before.before.before.before.before.further.ensures.1,
+          c.requires.1.0
+          c.eval-first.ensures.0
+          c.eval-first.auto.stack
+          c.in-Value.is
+          c.onward-rest.ensures
+          c.further-second.ensures.0
+          c.further-second.auto.stack,
+      c.further-second.ensures.1,
     ))
-    (λ c. c.before.before.before.before.joined.auto.0
-    ∙ c.before.before.before.before.before.before.before.before.before.before.before.before.before.before.further.auto.0 ∙ c.before.before.before.before.before.before.before.before.before.before.before.before.before.before.before.before.before.before.before.before.before.before.before.before.before.before.before.before.eval.auto.0)
-    (λ c. c.before.before.before.before.joined.auto.1.0
-    ∙ c.before.before.before.before.before.before.before.before.before.before.before.before.before.before.further.auto.1.0 ∙ c.before.before.before.before.before.before.before.before.before.before.before.before.before.before.before.before.before.before.before.before.before.before.before.before.before.before.before.before.eval.auto.1.0)
+    (λ c. c.joined.auto.words
+    ∙ c.further-second.auto.words ∙ c.eval-first.auto.words)
+    (λ c. c.joined.auto.counts
+    ∙ c.further-second.auto.counts ∙ c.eval-first.auto.counts)
     (λ c. (simp length-set at
-    c.before.before.before.before.before.before.before.before.before.before.before.before.before.before.further.auto.1.1.0)
-    ∙ c.before.before.before.before.before.before.before.before.before.before.before.before.before.before.before.before.before.before.before.before.before.before.before.before.before.before.before.before.eval.auto.1.1.0)
+    c.further-second.auto.stack)
+    ∙ c.eval-first.auto.stack)
     (λ c. (
       keep-answered
-          c.before.before.before.before.before.before.before.before.before.before.before.before.before.before.before.before.before.before.before.before.before.before.before.before.before.before.before.before.before.before.before.before.before.before.before.before.requires.1.0
-          c.before.before.before.before.before.before.before.before.before.before.before.before.before.before.before.before.before.before.before.before.before.before.before.before.before.before.before.before.eval.ensures.0
-          c.before.before.before.before.before.before.before.before.before.before.before.before.before.before.before.before.before.before.before.before.before.before.before.before.before.before.before.before.eval.auto.1.1.0
-          c.before.before.before.before.before.before.before.before.before.before.before.before.before.before.before.before.before.before.before.before.first.given.1
-          c.before.before.before.before.before.before.before.before.before.before.before.before.before.before.before.before.before.before.onward.ensures
-          c.before.before.before.before.before.before.before.before.before.before.before.before.before.before.further.ensures.0 c.before.before.before.before.before.before.before.before.before.before.before.before.before.before.further.auto.1.1.0 c.before.before.before.before.joined.ensures.0,
-      c.before.before.before.before.joined.ensures.1,
+          c.requires.1.0
+          c.eval-first.ensures.0
+          c.eval-first.auto.stack
+          c.in-Value.is
+          c.onward-rest.ensures
+          c.further-second.ensures.0 c.further-second.auto.stack c.joined.ensures.0,
+      c.joined.ensures.1,
     )))
     (λ t. modal-lts.spec (
       below eval-kinds.ps μ-eval eval.Pre t,
@@ -570,10 +570,10 @@ pub +bind_both_eval_keep_modal_negate_round_turn_spec : {M : Type 1} → stateme
     (at modal-kinds.ps μ-modal modal.Pre t)
     modal.Post
     (λ c κs. (
-      omega (arith, c.before.before.before.before.before.before.before.requires.0),
+      omega (arith, c.requires.0),
       (
-        part-asked c.before.before.before.before.before.before.before.requires.1.0,
-        c.before.before.before.before.before.before.before.requires.1.1,
+        part-asked c.requires.1.0,
+        c.requires.1.1,
       ),
     ))
     (λ c. search rules)
@@ -582,50 +582,50 @@ pub +bind_both_eval_keep_modal_negate_round_turn_spec : {M : Type 1} → stateme
     (λ c. search rules)
     (λ c. (
       mode_halts
-          c.before.before.before.before.before.before.before.before.before.before.before.before.before.before.before.requires.1.0 c.before.before.before.before.before.before.before.eval.ensures.0 c.match.keys2
-          c.before.before.before.before.before.before.before.before.before.before.before.before.before.before.before.args.m,
-      c.before.before.before.before.before.before.before.eval.ensures.1,
+          c.requires.1.0 c.eval-part.ensures.0 c.in_default.in_default-own.keys2
+          c.args.m,
+      c.eval-part.ensures.1,
     ))
     (λ c. search rules)
     (λ c κs. relation-asked
-    c.before.before.before.before.before.before.before.before.before.before.before.before.before.before.before.before.before.before.requires.1.0 c.before.before.before.before.before.before.before.before.before.before.eval.ensures.0
-    c.before.before.before.before.before.before.before.before.before.before.eval.auto.1.1.0
-    c.before.before.part.given.1)
+    c.requires.1.0 c.eval-part.ensures.0
+    c.eval-part.auto.stack
+    c.in-Value.is)
     (λ c. live-within
-    c.before.before.before.before.before.before.before.before.before.before.before.before.before.before.before.before.before.before.before.before.before.requires.1.0
-    c.before.before.before.before.before.before.before.before.before.before.before.before.before.eval.ensures.0
-    c.before.before.before.before.before.before.before.before.before.before.before.before.before.eval.auto.1.1.0
-    c.before.before.before.before.before.part.given.1)
+    c.requires.1.0
+    c.eval-part.ensures.0
+    c.eval-part.auto.stack
+    c.in-Value.is)
     (λ c. sym
     (length-take-le _ _
     (live-within
-    c.before.before.before.before.before.before.before.before.before.before.before.before.before.before.before.before.before.before.before.before.before.before.requires.1.0
-    c.before.before.before.before.before.before.before.before.before.before.before.before.before.before.eval.ensures.0 c.before.before.before.before.before.before.before.before.before.before.before.before.before.before.eval.auto.1.1.0 c.before.before.before.before.before.before.part.given.1)))
+    c.requires.1.0
+    c.eval-part.ensures.0 c.eval-part.auto.stack c.in-Value.is)))
     (λ c κs. (
       over-asked
-          c.before.before.before.before.before.before.before.before.before.before.before.before.before.before.before.before.before.before.before.before.before.before.requires.1.0
-          c.before.before.before.before.before.before.before.before.before.before.before.before.before.before.eval.ensures.0 c.before.before.before.before.before.before.before.before.before.before.before.before.before.before.eval.auto.1.1.0 c.before.before.before.before.before.before.part.given.1 c.before.before.before.root-arrow.result
-          c.before.before.before.root-arrow.ensures,
-      c.before.before.before.before.before.before.before.before.before.before.before.before.before.before.eval.ensures.1,
+          c.requires.1.0
+          c.eval-part.ensures.0 c.eval-part.auto.stack c.in-Value.is c.root_arrow-relation.result
+          c.root_arrow-relation.ensures,
+      c.eval-part.ensures.1,
     ))
     (λ c κs. search rules)
-    (λ c. c.before.before.before.before.before.over.auto.0
-    ∙ c.before.before.before.before.before.before.before.before.before.before.before.before.before.before.before.before.before.before.before.before.eval.auto.0)
-    (λ c. c.before.before.before.before.before.over.auto.1.0
-    ∙ c.before.before.before.before.before.before.before.before.before.before.before.before.before.before.before.before.before.before.before.before.eval.auto.1.0)
+    (λ c. c.over-taken.auto.words
+    ∙ c.eval-part.auto.words)
+    (λ c. c.over-taken.auto.counts
+    ∙ c.eval-part.auto.counts)
     (λ c. search rules)
     (λ c. (
       over-answered
-          c.before.before.before.before.before.before.before.before.before.before.before.before.before.before.before.before.before.before.before.before.before.before.before.before.before.before.before.before.requires.1.0
-          c.before.before.before.before.before.before.before.before.before.before.before.before.before.before.before.before.before.before.before.before.eval.ensures.0
-          c.before.before.before.before.before.before.before.before.before.before.before.before.before.before.before.before.before.before.before.before.eval.auto.1.1.0
-          c.before.before.before.before.before.before.before.before.before.before.before.before.part.given.1
-          c.before.before.before.before.before.before.before.before.before.root-arrow.result
-          c.before.before.before.before.before.before.before.before.before.root-arrow.ensures
-          c.before.before.before.before.before.over.result
-          c.before.before.before.before.before.before.before.before.before.before.before.before.before.before.before.before.before.before.before.before.before.before.before.before.before.before.before.before.args.m
-          c.before.before.before.before.before.over.ensures.0 c.answer.ensures,
-      c.before.before.before.before.before.over.ensures.1,
+          c.requires.1.0
+          c.eval-part.ensures.0
+          c.eval-part.auto.stack
+          c.in-Value.is
+          c.root_arrow-relation.result
+          c.root_arrow-relation.ensures
+          c.over-taken.result
+          c.args.m
+          c.over-taken.ensures.0 c.answer.ensures,
+      c.over-taken.ensures.1,
     )))
     (λ t. negate-lts.spec (
       below eval-kinds.ps μ-eval eval.Pre t,
@@ -640,49 +640,49 @@ pub +bind_both_eval_keep_modal_negate_round_turn_spec : {M : Type 1} → stateme
     (at negate-kinds.ps μ-negate negate.Pre t)
     negate.Post
     (λ c κs. (
-      omega (arith, c.before.before.before.before.before.before.before.requires.0),
-      c.before.before.before.before.before.before.before.requires.1,
+      omega (arith, c.requires.0),
+      c.requires.1,
     ))
     (λ c. search rules)
     (λ c. search rules)
     (λ c. search rules)
     (λ c. search rules)
     (λ c. (
-      negate_halts c.before.before.before.before.before.before.before.eval.ensures.0 c.match.keys2,
-      c.before.before.before.before.before.before.before.eval.ensures.1,
+      negate_halts c.eval-part.ensures.0 c.in_default.in_default-own.keys2,
+      c.eval-part.ensures.1,
     ))
     (λ c κs. (
-      negate-asked c.before.before.before.before.before.before.before.before.before.before.before.before.eval.ensures.0
-          c.before.before.before.before.before.before.before.before.before.before.before.before.eval.auto.1.1.0
-          c.before.before.before.before.part.given.1
-          c.before.before.before.before.before.before.before.before.before.before.before.before.before.before.before.before.before.before.before.before.requires.1.0,
-      c.before.before.before.before.before.before.before.before.before.before.before.before.eval.ensures.1,
+      negate-asked c.eval-part.ensures.0
+          c.eval-part.auto.stack
+          c.in-Value.is
+          c.requires.1.0,
+      c.eval-part.ensures.1,
     ))
     (λ c κs. (
       confined-asked
-          c.before.before.before.before.before.before.before.before.before.before.before.before.before.before.before.before.before.before.before.before.eval.ensures.0
-          c.before.before.before.before.before.before.before.before.before.before.before.before.before.before.before.before.before.before.before.before.eval.auto.1.1.0
-          c.before.before.before.before.before.before.before.before.before.before.before.before.part.given.1
-          c.before.before.before.before.before.before.before.live-step.ensures.0
-          c.before.before.before.before.before.before.before.before.before.before.before.before.before.before.before.before.before.before.before.before.before.before.before.before.before.before.before.before.requires.1.0,
-      c.before.before.before.before.before.before.before.live-step.ensures.1,
+          c.eval-part.ensures.0
+          c.eval-part.auto.stack
+          c.in-Value.is
+          c.live_step-inverse.ensures.0
+          c.requires.1.0,
+      c.live_step-inverse.ensures.1,
     ))
     (λ c κs. search rules)
-    (λ c. c.before.before.before.before.before.confined.auto.0
-    ∙ c.before.before.before.before.before.before.before.before.before.before.before.before.before.live-step.auto.0
-    ∙ c.before.before.before.before.before.before.before.before.before.before.before.before.before.before.before.before.before.before.before.before.before.before.before.before.before.before.eval.auto.0)
-    (λ c. c.before.before.before.before.before.confined.auto.1.0
-    ∙ c.before.before.before.before.before.before.before.before.before.before.before.before.before.live-step.auto.1.0
-    ∙ c.before.before.before.before.before.before.before.before.before.before.before.before.before.before.before.before.before.before.before.before.before.before.before.before.before.before.eval.auto.1.0)
+    (λ c. c.confined-taken.auto.words
+    ∙ c.live_step-inverse.auto.words
+    ∙ c.eval-part.auto.words)
+    (λ c. c.confined-taken.auto.counts
+    ∙ c.live_step-inverse.auto.counts
+    ∙ c.eval-part.auto.counts)
     (λ c. search rules)
     (λ c. (
       negate-answered
-          c.before.before.before.before.before.before.before.before.before.before.before.before.before.before.before.before.before.before.before.before.before.before.before.before.before.before.eval.ensures.0
-          c.before.before.before.before.before.before.before.before.before.before.before.before.before.before.before.before.before.before.before.before.before.before.before.before.before.before.eval.auto.1.1.0
-          c.before.before.before.before.before.before.before.before.before.before.before.before.before.before.before.before.before.before.part.given.1
-          c.before.before.before.before.before.before.before.before.before.before.before.before.before.live-step.ensures.0
-          c.before.before.before.before.before.confined.ensures.0 c.answer.ensures,
-      c.before.before.before.before.before.confined.ensures.1,
+          c.eval-part.ensures.0
+          c.eval-part.auto.stack
+          c.in-Value.is
+          c.live_step-inverse.ensures.0
+          c.confined-taken.ensures.0 c.answer.ensures,
+      c.confined-taken.ensures.1,
     )))
     (λ t. round-lts.spec (
       below eval-kinds.ps μ-eval eval.Pre t,
@@ -697,10 +697,10 @@ pub +bind_both_eval_keep_modal_negate_round_turn_spec : {M : Type 1} → stateme
     (at round-kinds.ps μ-round round.Pre t)
     round.Post
     (λ c κs. (
-      omega (arith, c.before.before.before.before.before.before.before.requires.0),
+      omega (arith, c.requires.0),
       (
-        goal-asked c.before.before.before.before.before.before.before.requires.1.0,
-        c.before.before.before.before.before.before.before.requires.1.1,
+        goal-asked c.requires.1.0,
+        c.requires.1.1,
       ),
     ))
     (λ c. search rules)
@@ -709,62 +709,62 @@ pub +bind_both_eval_keep_modal_negate_round_turn_spec : {M : Type 1} → stateme
     (λ c. search rules)
     (λ c. (
       goal_halts
-          c.before.before.before.before.before.before.before.before.before.before.before.before.before.before.before.requires.1.0 c.before.before.before.before.before.before.before.eval.ensures.0 c.match.keys2
-          c.before.before.before.before.before.before.before.before.before.before.before.before.before.before.before.args.m,
-      c.before.before.before.before.before.before.before.eval.ensures.1,
+          c.requires.1.0 c.eval-first.ensures.0 c.in_default.in_default-own.keys2
+          c.args.m,
+      c.eval-first.ensures.1,
     ))
     (λ c. search rules)
     (λ c. omega (
       arith,
       round-free
-          c.before.before.before.before.before.before.before.before.before.before.before.before.before.before.before.before.before.requires.1.0 c.before.before.before.before.before.before.before.before.before.eval.ensures.0,
-      c.before.before.before.before.before.before.before.before.before.before.before.before.before.before.before.before.before.requires.1.0.ready.size,
-      c.before.before.before.before.before.before.before.before.before.eval.auto.1.1.0,
+          c.requires.1.0 c.eval-first.ensures.0,
+      c.requires.1.0.ready.size,
+      c.eval-first.auto.stack,
     ))
     (λ c κs. round-free
-    c.before.before.before.before.before.before.before.before.before.before.before.before.before.before.before.before.before.requires.1.0 c.before.before.before.before.before.before.before.before.before.eval.ensures.0)
+    c.requires.1.0 c.eval-first.ensures.0)
     (λ c κs. (
       omega (
         arith,
-        same-depth c.before.before.before.onward.ensures,
-        c.before.before.before.before.before.before.before.before.before.before.before.before.before.before.before.before.before.before.before.before.before.requires.0,
+        same-depth c.onward-rest.ensures,
+        c.requires.0,
       ),
       (
         kept-part
-            c.before.before.before.before.before.before.before.before.before.before.before.before.before.before.before.before.before.before.before.before.before.requires.1.0
-            c.before.before.before.before.before.before.before.before.before.before.before.before.before.eval.ensures.0
-            c.before.before.before.before.before.before.before.before.before.before.before.before.before.eval.auto.1.1.0
-            c.before.before.before.before.before.first.given.1 c.before.before.before.onward.ensures,
-        c.before.before.before.before.before.before.before.before.before.before.before.before.before.eval.ensures.1,
+            c.requires.1.0
+            c.eval-first.ensures.0
+            c.eval-first.auto.stack
+            c.in-Value.is c.onward-rest.ensures,
+        c.eval-first.ensures.1,
       ),
     ))
     (λ c κs. (
       or-asked
-          c.before.before.before.before.before.before.before.before.before.before.before.before.before.before.before.before.before.before.before.before.before.before.before.before.before.before.before.before.before.before.before.requires.1.0
-          c.before.before.before.before.before.before.before.before.before.before.before.before.before.before.before.before.before.before.before.before.before.before.before.eval.ensures.0
-          c.before.before.before.before.before.before.before.before.before.before.before.before.before.before.before.before.before.before.before.before.before.before.before.eval.auto.1.1.0
-          c.before.before.before.before.before.before.before.before.before.before.before.before.before.before.before.first.given.1
-          c.before.before.before.before.before.before.before.before.before.before.before.before.before.onward.ensures
-          c.before.before.before.before.before.before.before.before.before.keep.ensures.0
-          c.before.before.before.before.before.before.before.before.before.keep.auto.1.1.0,
-      c.before.before.before.before.before.before.before.before.before.keep.ensures.1,
+          c.requires.1.0
+          c.eval-first.ensures.0
+          c.eval-first.auto.stack
+          c.in-Value.is
+          c.onward-rest.ensures
+          c.keep-second.ensures.0
+          c.keep-second.auto.stack,
+      c.keep-second.ensures.1,
     ))
-    (λ c. c.before.before.before.before.joined.auto.0
-    ∙ c.before.before.before.before.before.before.before.before.before.before.before.before.before.before.keep.auto.0
-    ∙ c.before.before.before.before.before.before.before.before.before.before.before.before.before.before.before.before.before.before.before.before.before.before.before.before.before.before.before.before.eval.auto.0)
-    (λ c. c.before.before.before.before.joined.auto.1.0
-    ∙ c.before.before.before.before.before.before.before.before.before.before.before.before.before.before.keep.auto.1.0 ∙ c.before.before.before.before.before.before.before.before.before.before.before.before.before.before.before.before.before.before.before.before.before.before.before.before.before.before.before.before.eval.auto.1.0)
+    (λ c. c.joined.auto.words
+    ∙ c.keep-second.auto.words
+    ∙ c.eval-first.auto.words)
+    (λ c. c.joined.auto.counts
+    ∙ c.keep-second.auto.counts ∙ c.eval-first.auto.counts)
     (λ c. (simp length-set at
-    c.before.before.before.before.before.before.before.before.before.before.before.before.before.before.keep.auto.1.1.0) ∙ c.before.before.before.before.before.before.before.before.before.before.before.before.before.before.before.before.before.before.before.before.before.before.before.before.before.before.before.before.eval.auto.1.1.0)
+    c.keep-second.auto.stack) ∙ c.eval-first.auto.stack)
     (λ c. (
       or-answered
-          c.before.before.before.before.before.before.before.before.before.before.before.before.before.before.before.before.before.before.before.before.before.before.before.before.before.before.before.before.before.before.before.before.before.before.before.before.requires.1.0
-          c.before.before.before.before.before.before.before.before.before.before.before.before.before.before.before.before.before.before.before.before.before.before.before.before.before.before.before.before.eval.ensures.0
-          c.before.before.before.before.before.before.before.before.before.before.before.before.before.before.before.before.before.before.before.before.before.before.before.before.before.before.before.before.eval.auto.1.1.0
-          c.before.before.before.before.before.before.before.before.before.before.before.before.before.before.before.before.before.before.before.before.first.given.1
-          c.before.before.before.before.before.before.before.before.before.before.before.before.before.before.before.before.before.before.onward.ensures
-          c.before.before.before.before.before.before.before.before.before.before.before.before.before.before.keep.ensures.0 c.before.before.before.before.before.before.before.before.before.before.before.before.before.before.keep.auto.1.1.0 c.before.before.before.before.joined.ensures.0,
-      c.before.before.before.before.joined.ensures.1,
+          c.requires.1.0
+          c.eval-first.ensures.0
+          c.eval-first.auto.stack
+          c.in-Value.is
+          c.onward-rest.ensures
+          c.keep-second.ensures.0 c.keep-second.auto.stack c.joined.ensures.0,
+      c.joined.ensures.1,
     )))
     λ t. turn-lts.spec (
       below eval-kinds.ps μ-eval eval.Pre t,
@@ -776,35 +776,35 @@ pub +bind_both_eval_keep_modal_negate_round_turn_spec : {M : Type 1} → stateme
     turn.Post
     (λ c. search rules)
     (λ c κs. (
-      omega (arith, c.before.before.before.before.before.before.before.before.before.requires.0),
+      omega (arith, c.requires.0),
       (
-        formula_asked c.before.before.before.enum_told.given.1
-            c.before.before.before.before.before.before.before.before.before.requires.1.0,
-        c.before.before.before.before.before.before.before.before.before.requires.1.1,
+        formula_asked c.in-Binder.is
+            c.requires.1.0,
+        c.requires.1.1,
       ),
     ))
     (λ c. search rules)
     (λ c κs. (
-      omega (arith, c.before.before.before.before.before.before.before.before.before.before.requires.0),
+      omega (arith, c.requires.0),
       (
-        round-asked c.before.before.before.before.body.given.1
-            c.before.before.before.before.before.before.before.before.before.before.requires.1.0,
-        c.before.before.before.before.before.before.before.before.before.before.requires.1.1,
+        round-asked c.in-Until.is
+            c.requires.1.0,
+        c.requires.1.1,
       ),
     ))
     (λ c. search rules)
     (λ c. search rules)
     (λ c. search rules)
     (λ c. (
-      formula_answered c.before.before.before.before.before.before.before.before.before.before.enum_told.given.1
-          c.before.before.before.before.before.before.eval.ensures.0,
-      c.before.before.before.before.before.before.eval.ensures.1,
+      formula_answered c.in-Binder.is
+          c.eval.ensures.0,
+      c.eval.ensures.1,
     ))
     (λ c. search rules)
     (λ c. search rules)
     (λ c. search rules)
     (λ c. (
-      round-answered c.before.before.before.before.before.before.before.before.before.before.before.body.given.1
-          c.before.before.before.before.before.before.round.ensures.0,
-      c.before.before.before.before.before.before.round.ensures.1,
+      round-answered c.in-Until.is
+          c.round.ensures.0,
+      c.round.ensures.1,
     ))

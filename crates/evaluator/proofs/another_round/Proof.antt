@@ -11,4 +11,4 @@ another_round_spec =
     tie.close
     (tie.spec
     (λ c. search rules)
-    (λ c. rw (add-one c.before.args.c.rounds)))
+    (λ c. rw (add-one c.args.c.rounds)))

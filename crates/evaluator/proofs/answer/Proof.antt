@@ -11,5 +11,5 @@ answer_spec =
     (tie.spec
     (λ c. search rules)
     (λ c. search rules)
-    (λ c. rw c.before.taken.given.1)
+    (λ c. rw c.in-At.is)
     (λ c. search rules))

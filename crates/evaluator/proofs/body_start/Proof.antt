@@ -13,4 +13,4 @@ body_start_spec =
     (λ c. search rules)
     (λ c. search rules)
     (λ c. search rules)
-    (λ c. rw (add-one c.before.args.counted.rounds)))
+    (λ c. rw (add-one c.args.counted.rounds)))

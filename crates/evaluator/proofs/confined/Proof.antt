@@ -13,37 +13,37 @@ confined_spec =
     (tie.spec
     (λ c. search rules)
     (λ c. search rules)
-    (λ c. (confined-none c.enum_told.given.1, c.before.before.before.before.before.requires.1))
+    (λ c. (confined-none c.in_default.is, c.requires.1))
     (λ c κs. search rules)
-    (λ c κs. valid-asks c.before.before.before.before.before.before.before.before.before.requires.0.ready.base.sound)
+    (λ c κs. valid-asks c.requires.0.ready.base.sound)
     (λ c. search rules)
     (λ c. (
-      confined-known c.before.before.before.before.before.before.first.given.1 c.before.root-arrow.result
-          c.before.root-arrow.ensures
-          (sym c.before.before.before.before.only_now.ensures ∙ c.before.before.before.if1.true) c.if2.true
-          c.before.before.before.before.before.before.before.before.before.before.before.requires.0
-          c.before.before.before.before.before.before.before.before.before.before.before.requires.1,
-      c.before.before.before.before.before.before.before.before.before.before.before.requires.1,
+      confined-known c.in-At.is c.root_arrow-valid.result
+          c.root_arrow-valid.ensures
+          (sym c.only_now.ensures ∙ c.if-only_now.true) c.if-valid-eq-EVERYTHING.true
+          c.requires.0
+          c.requires.1,
+      c.requires.1,
     ))
     (λ c κs. (
-      valid-asked c.before.before.before.before.before.before.before.before.first.given.1
-          c.before.before.before.root-arrow.result c.before.before.before.root-arrow.ensures
-          c.before.before.before.before.before.before.before.before.before.before.before.before.before.requires.0,
-      c.before.before.before.before.before.before.before.before.before.before.before.before.before.requires.1,
+      valid-asked c.in-At.is
+          c.root_arrow-valid.result c.root_arrow-valid.ensures
+          c.requires.0,
+      c.requires.1,
     ))
     (λ c. search rules)
     (λ c. search rules)
     (λ c. (
       confined-valid
-          c.before.before.before.before.before.before.before.before.before.before.before.before.before.first.given.1
-          c.before.before.before.before.before.before.before.before.root-arrow.result
-          c.before.before.before.before.before.before.before.before.root-arrow.ensures
-          (sym c.before.before.before.before.before.before.before.before.before.before.before.only_now.ensures
-          ∙ c.before.before.before.before.before.before.before.before.before.before.if1.true)
-          c.before.before.before.before.live-step.ensures.0,
-      c.before.before.before.before.live-step.ensures.1,
+          c.in-At.is
+          c.root_arrow-valid.result
+          c.root_arrow-valid.ensures
+          (sym c.only_now.ensures
+          ∙ c.if-only_now.true)
+          c.live_step.ensures.0,
+      c.live_step.ensures.1,
     ))
     (λ c. (
-      confined-all c.before.before.before.first.given.1 (sym c.before.only_now.ensures ∙ c.if1.false),
-      c.before.before.before.before.before.before.before.before.requires.1,
+      confined-all c.in-At.is (sym c.only_now.ensures ∙ c.if-only_now.false),
+      c.requires.1,
     )))

@@ -14,32 +14,32 @@ evaluate_pairs_spec =
     (λ c κs. search rules)
     (λ c. search rules)
     (λ c κs. (
-      pairs-begins c.before.before.before.before.before.before.before.before.requires
-          c.before.before.before.before.forget.ensures,
+      pairs-begins c.requires
+          c.forget.ensures,
       refl,
     ))
     (λ c κs. search rules)
     (λ c. search rules)
     (λ c. search rules)
     (λ c κs. (
-      asks_at c.before.before.before.starting.ensures
+      asks_at c.starting-start.ensures
           (pairs-asks
-          c.before.before.before.before.before.before.before.before.before.before.before.before.before.before.requires
-          c.before.before.before.before.before.before.before.before.before.before.forget.ensures),
-      c.before.before.before.before.before.begin.ensures,
+          c.requires
+          c.forget.ensures),
+      c.begin.ensures,
     ))
     (λ c. search rules)
     (λ c. search rules)
     (λ c. pairs_halts
-    c.before.before.before.before.before.before.before.before.before.before.before.before.before.before.before.before.before.before.before.before.requires
-    c.before.before.before.before.before.before.before.before.before.before.before.before.before.before.before.before.forget.ensures
-    (ends_at c.before.before.before.before.before.before.before.before.before.starting.ensures
-    c.before.before.before.before.before.eval.ensures.0) c.match.keys2)
+    c.requires
+    c.forget.ensures
+    (ends_at c.starting-start.ensures
+    c.eval.ensures.0) c.in_default.in_default-own.keys2)
     (λ c κs. search rules)
     (λ c. search rules)
     (λ c. pairs-ends
-    c.before.before.before.before.before.before.before.before.before.before.before.before.before.before.before.before.before.before.before.before.before.before.before.requires
-    c.before.before.before.before.before.before.before.before.before.before.before.before.before.before.before.before.before.before.before.forget.ensures
-    (ends_at c.before.before.before.before.before.before.before.before.before.before.before.before.starting.ensures
-    c.before.before.before.before.before.before.before.before.eval.ensures.0)
-    (ap taken_of c.before.before.a.given.1 ∙ sym c.unmoved.ensures)))
+    c.requires
+    c.forget.ensures
+    (ends_at c.starting-start.ensures
+    c.eval.ensures.0)
+    (ap taken_of c.in-Value.is ∙ sym c.unmoved.ensures)))

@@ -15,46 +15,46 @@ evaluate_relation_spec =
     (λ c κs. search rules)
     (λ c. search rules)
     (λ c κs. (
-      pairs-begins c.before.before.before.before.before.before.before.before.requires
-          c.before.before.before.before.forget.ensures,
+      pairs-begins c.requires
+          c.forget.ensures,
       refl,
     ))
     (λ c κs. search rules)
     (λ c. search rules)
     (λ c. search rules)
     (λ c κs. (
-      asks_at c.before.before.before.starting.ensures
+      asks_at c.starting-start.ensures
           (pairs-asks
-          c.before.before.before.before.before.before.before.before.before.before.before.before.before.before.requires
-          c.before.before.before.before.before.before.before.before.before.before.forget.ensures),
-      c.before.before.before.before.before.begin.ensures,
+          c.requires
+          c.forget.ensures),
+      c.begin.ensures,
     ))
     (λ c. search rules)
     (λ c. search rules)
     (λ c. relation_halts
-    c.before.before.before.before.before.before.before.before.before.before.before.before.before.before.before.before.before.before.before.before.requires
-    c.before.before.before.before.before.before.before.before.before.before.before.before.before.before.before.before.forget.ensures
-    (ends_at c.before.before.before.before.before.before.before.before.before.starting.ensures
-    c.before.before.before.before.before.eval.ensures.0) c.match.keys2)
+    c.requires
+    c.forget.ensures
+    (ends_at c.starting-start.ensures
+    c.eval.ensures.0) c.in_default.in_default-own.keys2)
     (λ c. search rules)
     (λ c. search rules)
     (λ c κs. (
       within-asks
-          c.before.before.before.before.before.before.before.before.before.before.before.before.before.before.before.before.before.before.before.before.before.before.before.before.before.requires
-          c.before.before.before.before.before.before.before.before.before.before.before.before.before.before.before.before.before.before.before.before.before.forget.ensures
+          c.requires
+          c.forget.ensures
           (ends_at
-          c.before.before.before.before.before.before.before.before.before.before.before.before.before.before.starting.ensures c.before.before.before.before.before.before.before.before.before.before.eval.ensures.0)
-          c.before.before.before.before.a.given.1
-          c.before.before.before.before.before.before.before.before.before.before.eval.auto.1.1.0,
-      c.before.before.before.before.before.before.before.before.before.before.eval.ensures.1,
+          c.starting-start.ensures c.eval.ensures.0)
+          c.in-Value.is
+          c.eval.auto.stack,
+      c.eval.ensures.1,
     ))
-    (λ c. c.before.before.before.before.within.auto.0
-    ∙ c.before.before.before.before.before.before.before.before.before.before.before.before.before.before.before.eval.auto.0
-    ∙ c.before.before.before.before.before.before.before.before.before.before.before.before.before.before.before.before.before.before.before.before.before.before.before.before.before.before.forget.auto.0)
+    (λ c. c.within.auto.words
+    ∙ c.eval.auto.words
+    ∙ c.forget.auto.words)
     (λ c. relation-ends
-    c.before.before.before.before.before.before.before.before.before.before.before.before.before.before.before.before.before.before.before.before.before.before.before.before.before.before.before.before.before.before.requires
-    c.before.before.before.before.before.before.before.before.before.before.before.before.before.before.before.before.before.before.before.before.before.before.before.before.before.before.forget.ensures
+    c.requires
+    c.forget.ensures
     (ends_at
-    c.before.before.before.before.before.before.before.before.before.before.before.before.before.before.before.before.before.before.before.starting.ensures
-    c.before.before.before.before.before.before.before.before.before.before.before.before.before.before.before.eval.ensures.0) c.before.before.before.before.before.before.before.before.before.a.given.1
-    c.before.before.before.before.before.before.before.before.before.before.before.before.before.before.before.eval.auto.1.1.0 c.before.before.before.before.within.ensures.0))
+    c.starting-start.ensures
+    c.eval.ensures.0) c.in-Value.is
+    c.eval.auto.stack c.within.ensures.0))

@@ -10,17 +10,17 @@ pub evaluate_round_spec : {M : Type 1} → statement M
 evaluate_round_spec =
     tie.close
     (tie.spec
-    (λ c. c.before.before.before.before.requires.0.place)
-    (λ c κs. c.before.before.before.before.requires.0.more)
+    (λ c. c.requires.0.place)
+    (λ c κs. c.requires.0.more)
     (λ c κs. (
-      asks_at c.before.before.before.body-start.ensures c.before.before.before.before.before.before.before.before.requires.0.asks,
-      c.before.before.before.before.before.before.before.before.requires.1,
+      asks_at c.body_start-here.ensures c.requires.0.asks,
+      c.requires.1,
     ))
-    (λ c. c.before.before.before.before.before.before.eval.auto.0)
-    (λ c. c.before.before.before.before.before.before.eval.auto.1.0)
-    (λ c. simp length-set at c.before.before.before.before.before.before.eval.auto.1.1.0)
+    (λ c. c.eval.auto.words)
+    (λ c. c.eval.auto.counts)
+    (λ c. simp length-set at c.eval.auto.stack)
     (λ c. (
-      ends_at c.before.before.before.before.before.before.before.before.before.before.body-start.ensures
-          c.before.before.before.before.before.before.eval.ensures.0,
-      c.before.before.before.before.before.before.eval.ensures.1,
+      ends_at c.body_start-here.ensures
+          c.eval.ensures.0,
+      c.eval.ensures.1,
     )))

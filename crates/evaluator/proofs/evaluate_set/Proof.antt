@@ -14,22 +14,22 @@ evaluate_set_spec =
     (λ c κs. search rules)
     (λ c. search rules)
     (λ c κs. (
-      set-begins c.before.before.before.before.before.before.before.before.requires
-          c.before.before.before.before.forget.ensures,
+      set-begins c.requires
+          c.forget.ensures,
       refl,
     ))
     (λ c κs. search rules)
     (λ c. search rules)
     (λ c. search rules)
     (λ c κs. (
-      asks_at c.before.before.before.starting.ensures
-          (set-asks c.before.before.before.before.before.before.before.before.before.before.before.before.before.before.requires
-          c.before.before.before.before.before.before.before.before.before.before.forget.ensures),
-      c.before.before.before.before.before.begin.ensures,
+      asks_at c.starting-start.ensures
+          (set-asks c.requires
+          c.forget.ensures),
+      c.begin.ensures,
     ))
     (λ c. search rules)
     (λ c. set-ends
-    c.before.before.before.before.before.before.before.before.before.before.before.before.before.before.before.before.before.before.before.requires
-    c.before.before.before.before.before.before.before.before.before.before.before.before.before.before.before.forget.ensures
-    (ends_at c.before.before.before.before.before.before.before.before.starting.ensures
-    c.before.before.before.before.eval.ensures.0)))
+    c.requires
+    c.forget.ensures
+    (ends_at c.starting-start.ensures
+    c.eval.ensures.0)))

@@ -13,61 +13,61 @@ every_spec =
     tie.close
     (tie.spec
     (λ c κs. (
-      own-asked c.before.before.before.before.before.before.requires.0 _,
-      c.before.before.before.before.before.before.requires.1,
+      own-asked c.requires.0 _,
+      c.requires.1,
     ))
     (λ c. search rules)
     (λ c. search rules)
     (λ c. search rules)
     (λ c. search rules)
     (λ c. (
-      box_halts c.before.before.before.before.before.before.before.before.before.before.before.before.requires.0
-          c.before.before.before.before.before.reach.ensures.0 c.match.keys2,
-      c.before.before.before.before.before.reach.ensures.1,
+      box_halts c.requires.0
+          c.reach-first.ensures.0 c.in_default.in_default-own.keys2,
+      c.reach-first.ensures.1,
     ))
     (λ c. search rules)
     (λ c. omega (
       arith,
-      c.before.before.before.before.before.before.before.before.before.before.before.before.before.before.requires.0.room,
-      c.before.before.before.before.before.before.before.before.before.before.before.before.before.before.requires.0.ready.size,
+      c.requires.0.room,
+      c.requires.0.ready.size,
     ))
     (λ c κs.
-    c.before.before.before.before.before.before.before.before.before.before.before.before.before.before.requires.0.room)
+    c.requires.0.room)
     (λ c κs. true-asked
-    c.before.before.before.before.before.before.before.before.before.before.before.before.before.before.before.before.requires.0 c.before.before.before.before.before.before.before.before.before.reach.ensures.0
-    c.before.before.before.first.given.1)
+    c.requires.0 c.reach-first.ensures.0
+    c.in-Value.is)
     (λ c κs. (
       all_asked
-          c.before.before.before.before.before.before.before.before.before.before.before.before.before.before.before.before.before.before.before.before.requires.0
-          c.before.before.before.before.before.before.before.before.before.before.before.before.before.reach.ensures.0
-          c.before.before.before.before.before.before.before.first.given.1 c.before.before.before.root-arrow.ensures
-          c.before.before.before.before.before.onward.ensures,
-      c.before.before.before.before.before.before.before.before.before.before.before.before.before.reach.ensures.1,
+          c.requires.0
+          c.reach-first.ensures.0
+          c.in-Value.is c.root_arrow-valid.ensures
+          c.onward-rest.ensures,
+      c.reach-first.ensures.1,
     ))
     (λ c κs. (
       and-asked
-          c.before.before.before.before.before.before.before.before.before.before.before.before.before.before.before.before.before.before.before.before.before.before.before.before.before.before.before.before.requires.0
-          c.before.before.before.before.before.before.before.before.before.before.before.before.before.before.before.before.before.before.before.before.before.reach.ensures.0
-          c.before.before.before.before.before.before.before.before.before.before.before.before.before.before.before.first.given.1 c.before.before.before.before.before.before.before.before.before.before.before.root-arrow.ensures
-          c.before.before.before.before.before.before.before.before.before.before.before.before.before.onward.ensures
-          c.before.before.before.before.before.before.before.reach2.ensures.0,
-      c.before.before.before.before.before.before.before.reach2.ensures.1,
+          c.requires.0
+          c.reach-first.ensures.0
+          c.in-Value.is c.root_arrow-valid.ensures
+          c.onward-rest.ensures
+          c.reach-second.ensures.0,
+      c.reach-second.ensures.1,
     ))
-    (λ c. c.before.before.before.before.joined.auto.0
-    ∙ c.before.before.before.before.before.before.before.before.before.before.before.before.reach2.auto.0
-    ∙ c.before.before.before.before.before.before.before.before.before.before.before.before.before.before.before.before.before.before.before.before.before.before.before.before.before.before.reach.auto.0)
-    (λ c. c.before.before.before.before.joined.auto.1.0
-    ∙ c.before.before.before.before.before.before.before.before.before.before.before.before.reach2.auto.1.0
-    ∙ c.before.before.before.before.before.before.before.before.before.before.before.before.before.before.before.before.before.before.before.before.before.before.before.before.before.before.reach.auto.1.0)
+    (λ c. c.joined.auto.words
+    ∙ c.reach-second.auto.words
+    ∙ c.reach-first.auto.words)
+    (λ c. c.joined.auto.counts
+    ∙ c.reach-second.auto.counts
+    ∙ c.reach-first.auto.counts)
     (λ c. search rules)
     (λ c. (
       and-answered
-          c.before.before.before.before.before.before.before.before.before.before.before.before.before.before.before.before.before.before.before.before.before.before.before.before.before.before.before.before.before.before.before.before.before.requires.0
-          c.before.before.before.before.before.before.before.before.before.before.before.before.before.before.before.before.before.before.before.before.before.before.before.before.before.before.reach.ensures.0
-          c.before.before.before.before.before.before.before.before.before.before.before.before.before.before.before.before.before.before.before.before.first.given.1
-          c.before.before.before.before.before.before.before.before.before.before.before.before.before.before.before.before.root-arrow.ensures
-          c.before.before.before.before.before.before.before.before.before.before.before.before.before.before.before.before.before.before.onward.ensures
-          c.before.before.before.before.before.before.before.before.before.before.before.before.reach2.ensures.0
-          c.before.before.before.before.joined.ensures.0,
-      c.before.before.before.before.joined.ensures.1,
+          c.requires.0
+          c.reach-first.ensures.0
+          c.in-Value.is
+          c.root_arrow-valid.ensures
+          c.onward-rest.ensures
+          c.reach-second.ensures.0
+          c.joined.ensures.0,
+      c.joined.ensures.1,
     )))

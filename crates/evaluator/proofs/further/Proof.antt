@@ -13,26 +13,26 @@ further_spec =
     tie.close
     (tie.spec
     (λ c. search rules)
-    (λ c κs. c.before.before.before.before.before.before.before.before.requires)
+    (λ c κs. c.requires)
     (λ c. search rules)
     (λ c κs. (
-      own-asked c.before.before.before.before.before.before.before.before.requires.0 _,
-      c.before.before.before.before.before.before.before.before.requires.1,
+      own-asked c.requires.0 _,
+      c.requires.1,
     ))
     (λ c. search rules)
     (λ c. search rules)
     (λ c. search rules)
     (λ c. (
-      further_as c.before.before.before.before.before.before.before.before.before.before.enum_told.given.1
-          c.before.before.before.before.before.before.every.ensures.0,
-      c.before.before.before.before.before.before.every.ensures.1,
+      further_as c.in-All.is
+          c.every.ensures.0,
+      c.every.ensures.1,
     ))
     (λ c. search rules)
     (λ c. search rules)
     (λ c. search rules)
     (λ c. (
-      further_as c.before.before.before.before.before.before.before.before.enum-told2.given.1
-          (some-answered c.before.before.before.before.before.before.before.before.before.before.before.before.before.requires.0
-          c.before.before.before.before.reach.ensures.0),
-      c.before.before.before.before.reach.ensures.1,
+      further_as c.in-Some.is
+          (some-answered c.requires.0
+          c.reach.ensures.0),
+      c.reach.ensures.1,
     )))

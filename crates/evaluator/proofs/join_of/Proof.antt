@@ -7,4 +7,4 @@ use Rattle.evaluator.proofs.join_of.Lts as lts
 
 pub join_of_spec : {M : Type 1} → statement M
 join_of_spec =
-    tie.close (tie.spec (λ c. search rules) (λ c. search rules) (λ c. rw c.enum_told.given.1) (λ c. rw c.enum-told2.given.1))
+    tie.close (tie.spec (λ c. search rules) (λ c. search rules) (λ c. rw c.in-And.is) (λ c. rw c.in-Or.is))

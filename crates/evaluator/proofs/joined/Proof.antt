@@ -14,19 +14,19 @@ joined_spec =
     tie.close
     (tie.spec
     (λ c. search rules)
-    (λ c. (joined_stops _ c.match.keys2, c.before.before.before.before.requires.1))
+    (λ c. (joined_stops _ c.in_default.in_default-own.keys2, c.requires.1))
     (λ c κs. search rules)
     (λ c κs. (
-      joined_step c.before.before.before.before.before.before.before.before.before.requires.0
-          c.before.before.before.before.second.given.1 c.join-of.ensures,
-      c.before.before.before.before.before.before.before.before.before.requires.1,
+      joined_step c.requires.0
+          c.in-Value.is c.join_of.ensures,
+      c.requires.1,
     ))
     (λ c κs. search rules)
     (λ c. search rules)
     (λ c. search rules)
     (λ c. (
-      joined-steps c.before.before.before.before.before.before.before.before.before.before.second.given.1
-          c.before.before.before.before.before.before.join-of.ensures
-          c.before.before.before.before.before.live-step.ensures.0 c.answer.ensures,
-      c.before.before.before.before.before.live-step.ensures.1,
+      joined-steps c.in-Value.is
+          c.join_of.ensures
+          c.live_step-taken.ensures.0 c.answer.ensures,
+      c.live_step-taken.ensures.1,
     )))

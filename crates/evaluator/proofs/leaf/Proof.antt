@@ -20,161 +20,161 @@ leaf_spec =
     (λ c. search rules)
     (λ c κs. search rules)
     (λ c. search rules)
-    (λ c κs. valid-asks c.before.before.before.before.before.before.before.requires.0.ready.base.sound)
+    (λ c κs. valid-asks c.requires.0.ready.base.sound)
     (λ c κs. search rules)
     (λ c. search rules)
     (λ c. omega (
       arith,
-      now-taken c.before.before.before.before.before.before.before.before.before.args.limits.bits
-          c.before.before.before.before.before.before.before.before.before.args.grammar
-          c.before.before.before.l.given.1
-          c.before.before.before.before.before.before.before.before.before.requires.0.taken,
-      base-bits c.before.before.before.before.before.before.before.before.before.requires.0.ready.base,
+      now-taken c.args.limits.bits
+          c.args.grammar
+          c.in-Now.is
+          c.requires.0.taken,
+      base-bits c.requires.0.ready.base,
     ))
     (λ c κs. (
-      bit-asks c.before.before.before.before.before.before.before.before.before.requires.0.ready _
+      bit-asks c.requires.0.ready _
           (omega (
             arith,
-            now-taken c.before.before.before.before.before.before.before.before.before.args.limits.bits
-                c.before.before.before.before.before.before.before.before.before.args.grammar
-                c.before.before.before.l.given.1
-                c.before.before.before.before.before.before.before.before.before.requires.0.taken,
+            now-taken c.args.limits.bits
+                c.args.grammar
+                c.in-Now.is
+                c.requires.0.taken,
           )),
-      c.before.before.before.before.before.before.before.before.before.requires.1,
+      c.requires.1,
     ))
     (λ c κs. (
       bit-confined
-          c.before.before.before.before.before.before.before.before.before.before.before.before.before.before.before.before.requires.0.ready _
+          c.requires.0.ready _
           (omega (
             arith,
             now-taken
-                c.before.before.before.before.before.before.before.before.before.before.before.before.before.before.before.before.args.limits.bits
-                c.before.before.before.before.before.before.before.before.before.before.before.before.before.before.before.before.args.grammar c.before.before.before.before.before.before.before.before.before.before.l.given.1
-                c.before.before.before.before.before.before.before.before.before.before.before.before.before.before.before.before.requires.0.taken,
-          )) c.before.before.before.before.before.before.live-step.ensures.0,
-      c.before.before.before.before.before.before.live-step.ensures.1,
+                c.args.limits.bits
+                c.args.grammar c.in-Now.is
+                c.requires.0.taken,
+          )) c.live_step-bit.ensures.0,
+      c.live_step-bit.ensures.1,
     ))
     (λ c. search rules)
     (λ c. omega (
       arith,
-      (next-taken c.before.before.before.before.before.before.before.before.before.args.limits.bits
-          c.before.before.before.before.before.before.before.before.before.args.grammar
-          c.before.before.before.l2.given.1
-          c.before.before.before.before.before.before.before.before.before.requires.0.taken).0,
-      base-bits c.before.before.before.before.before.before.before.before.before.requires.0.ready.base,
+      (next-taken c.args.limits.bits
+          c.args.grammar
+          c.in-Next.is
+          c.requires.0.taken).0,
+      base-bits c.requires.0.ready.base,
     ))
     (λ c. omega (
       arith,
-      (next-taken c.before.before.before.before.before.before.before.before.before.args.limits.bits
-          c.before.before.before.before.before.before.before.before.before.args.grammar
-          c.before.before.before.l2.given.1
-          c.before.before.before.before.before.before.before.before.before.requires.0.taken).0,
-      base-bits c.before.before.before.before.before.before.before.before.before.requires.0.ready.base,
+      (next-taken c.args.limits.bits
+          c.args.grammar
+          c.in-Next.is
+          c.requires.0.taken).0,
+      base-bits c.requires.0.ready.base,
     ))
     (λ c κs. (
-      bit-asks c.before.before.before.before.before.before.before.before.before.requires.0.ready _
+      bit-asks c.requires.0.ready _
           (omega (
             arith,
-            (next-taken c.before.before.before.before.before.before.before.before.before.args.limits.bits
-                c.before.before.before.before.before.before.before.before.before.args.grammar
-                c.before.before.before.l2.given.1
-                c.before.before.before.before.before.before.before.before.before.requires.0.taken).0,
+            (next-taken c.args.limits.bits
+                c.args.grammar
+                c.in-Next.is
+                c.requires.0.taken).0,
           )),
-      c.before.before.before.before.before.before.before.before.before.requires.1,
+      c.requires.1,
     ))
     (λ c. search rules)
-    (λ c κs. let h = as_leaf (Var _) c.before.before.l3.given.1
-    c.before.before.before.before.before.before.before.before.requires.0.named in (
-      var_slot c.before.before.before.before.before.before.before.before.requires.0.ready h,
-      var_below c.before.before.before.before.before.before.before.before.requires.0.ready h,
+    (λ c κs. let h = as_leaf (Var _) c.in-Var.is
+    c.requires.0.named in (
+      var_slot c.requires.0.ready h,
+      var_below c.requires.0.ready h,
     ))
     (λ c κs. search rules)
     (λ c. search rules)
     (λ c. search rules)
     (λ c. search rules)
-    (λ c κs. let h = as_leaf (Reg _) c.before.before.l4.given.1
-    c.before.before.before.before.before.before.before.before.requires.0.named in (
-      omega (arith, reg-range c.before.before.before.before.before.before.before.before.requires.0.ready h),
-      omega (arith, c.before.before.before.before.before.before.before.before.requires.0.ready.base.sound.good.sizes.room),
-      reg-some c.before.before.before.before.before.before.before.before.requires.0.ready h,
+    (λ c κs. let h = as_leaf (Reg _) c.in-Reg.is
+    c.requires.0.named in (
+      omega (arith, reg-range c.requires.0.ready h),
+      omega (arith, c.requires.0.ready.base.sound.good.sizes.room),
+      reg-some c.requires.0.ready h,
     ))
     (λ c κs. search rules)
     (λ c. (
-      record { answers = λ σ R h. leaf_as False c.before.enum_told.given.1 (rw c.unmoved.ensures (leaf-none R)) },
-      c.before.before.before.before.before.before.before.requires.1,
+      record { answers = λ σ R h. leaf_as False c.in-False.is (rw c.unmoved.ensures (leaf-none R)) },
+      c.requires.1,
     ))
     (λ c. search rules)
     (λ c. (
       record {
         answers =
-            λ σ R h. leaf_as True c.before.before.before.enum-told2.given.1
-            (rw c.unmoved2.ensures (leaf-all R c.before.truth.ensures));
+            λ σ R h. leaf_as True c.in-True.is
+            (rw c.unmoved-in-True.ensures (leaf-all R c.truth.ensures));
       },
-      c.before.before.before.before.before.before.before.before.before.requires.1,
+      c.requires.1,
     ))
-    (λ c. c.before.before.before.before.confined.auto.0
-    ∙ c.before.before.before.before.before.before.before.before.before.before.before.live-step.auto.0)
-    (λ c. c.before.before.before.before.confined.auto.1.0
-    ∙ c.before.before.before.before.before.before.before.before.before.before.before.live-step.auto.1.0)
+    (λ c. c.confined.auto.words
+    ∙ c.live_step-bit.auto.words)
+    (λ c. c.confined.auto.counts
+    ∙ c.live_step-bit.auto.counts)
     (λ c. (
       record {
         answers =
             λ σ R h. leaf_as (Now _)
-            c.before.before.before.before.before.before.before.before.before.before.before.before.before.before.before.l.given.1 (leaf-now R
+            c.in-Now.is (leaf-now R
             (now-taken
-            c.before.before.before.before.before.before.before.before.before.before.before.before.before.before.before.before.before.before.before.before.before.args.limits.bits
-            c.before.before.before.before.before.before.before.before.before.before.before.before.before.before.before.before.before.before.before.before.before.args.grammar
-            c.before.before.before.before.before.before.before.before.before.before.before.before.before.before.before.l.given.1 c.before.before.before.before.before.before.before.before.before.before.before.before.before.before.before.before.before.before.before.before.before.requires.0.taken)
-            c.before.before.before.before.before.before.before.before.before.before.before.live-step.ensures.0
-            c.before.before.before.before.confined.ensures.0);
+            c.args.limits.bits
+            c.args.grammar
+            c.in-Now.is c.requires.0.taken)
+            c.live_step-bit.ensures.0
+            c.confined.ensures.0);
       },
-      c.before.before.before.before.confined.ensures.1,
+      c.confined.ensures.1,
     ))
     (λ c. search rules)
     (λ c. search rules)
     (λ c. (
       record {
         answers =
-            λ σ R h. leaf_as (Next _) c.before.before.before.before.before.before.before.before.l2.given.1
+            λ σ R h. leaf_as (Next _) c.in-Next.is
             (leaf-over
             (next-taken
-            c.before.before.before.before.before.before.before.before.before.before.before.before.before.before.args.limits.bits c.before.before.before.before.before.before.before.before.before.before.before.before.before.before.args.grammar c.before.before.before.before.before.before.before.before.l2.given.1
-            c.before.before.before.before.before.before.before.before.before.before.before.before.before.before.requires.0.taken
+            c.args.limits.bits c.args.grammar c.in-Next.is
+            c.requires.0.taken
             ).1 (leaf-next R
             (next-taken
-            c.before.before.before.before.before.before.before.before.before.before.before.before.before.before.args.limits.bits c.before.before.before.before.before.before.before.before.before.before.before.before.before.before.args.grammar c.before.before.before.before.before.before.before.before.l2.given.1
-            c.before.before.before.before.before.before.before.before.before.before.before.before.before.before.requires.0.taken
-            ).0 c.before.before.before.before.live-step2.ensures.0));
+            c.args.limits.bits c.args.grammar c.in-Next.is
+            c.requires.0.taken
+            ).0 c.live_step.ensures.0));
       },
-      c.before.before.before.before.live-step2.ensures.1,
+      c.live_step.ensures.1,
     ))
     (λ c. (
       record {
         answers =
-            λ σ R h. leaf_as (Var _) c.before.before.before.before.l3.given.1
-            (rw c.unmoved3.ensures
-            (rw c.before.variable.ensures
+            λ σ R h. leaf_as (Var _) c.in-Var.is
+            (rw c.unmoved-in-Var.ensures
+            (rw c.variable.ensures
             (leaf-over
-            (var_taken c.before.before.before.before.before.before.before.before.before.before.args.limits.bits
-            c.before.before.before.before.before.before.before.before.before.before.args.grammar
-            c.before.before.before.before.l3.given.1
-            c.before.before.before.before.before.before.before.before.before.before.requires.0.taken)
-            (leaf_var R (as_leaf (Var _) c.before.before.before.before.l3.given.1 h)))));
+            (var_taken c.args.limits.bits
+            c.args.grammar
+            c.in-Var.is
+            c.requires.0.taken)
+            (leaf_var R (as_leaf (Var _) c.in-Var.is h)))));
       },
-      c.before.before.before.before.before.before.before.before.before.before.requires.1,
+      c.requires.1,
     ))
     (λ c. search rules)
     (λ c. (
       record {
         answers =
-            λ σ R h. leaf_as (Reg _) c.before.before.before.before.l4.given.1
-            (rw c.unmoved4.ensures
+            λ σ R h. leaf_as (Reg _) c.in-Reg.is
+            (rw c.unmoved-in-Reg.ensures
             (leaf-over
-            (reg-taken c.before.before.before.before.before.before.before.before.before.before.args.limits.bits
-            c.before.before.before.before.before.before.before.before.before.before.args.grammar
-            c.before.before.before.before.l4.given.1
-            c.before.before.before.before.before.before.before.before.before.before.requires.0.taken)
-            (leaf-reg R (as_leaf (Reg _) c.before.before.before.before.l4.given.1 h) c.before.root-arrow.ensures)));
+            (reg-taken c.args.limits.bits
+            c.args.grammar
+            c.in-Reg.is
+            c.requires.0.taken)
+            (leaf-reg R (as_leaf (Reg _) c.in-Reg.is h) c.root_arrow.ensures)));
       },
-      c.before.before.before.before.before.before.before.before.before.before.requires.1,
+      c.requires.1,
     )))

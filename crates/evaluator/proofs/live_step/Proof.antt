@@ -12,17 +12,17 @@ live_step_spec =
     tie.close
     (tie.spec
     (λ c. search rules)
-    (λ c. sym (length-take-le _ _ c.before.before.before.before.before.before.before.requires.0.within))
+    (λ c. sym (length-take-le _ _ c.requires.0.within))
     (λ c κs. (
-      c.before.before.before.before.before.before.before.requires.0.asks,
-      c.before.before.before.before.before.before.before.requires.1,
+      c.requires.0.asks,
+      c.requires.1,
     ))
     (λ c. search rules)
     (λ c. search rules)
     (λ c. (
       record {
-        stepped = c.before.before.before.before.take.ensures.0;
-        count = c.before.before.before.before.take.ensures.2;
+        stepped = c.take.ensures.0;
+        count = c.take.ensures.2;
       },
-      c.before.before.before.before.take.ensures.1,
+      c.take.ensures.1,
     )))

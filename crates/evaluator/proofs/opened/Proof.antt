@@ -11,4 +11,4 @@ opened_spec =
     (tie.spec
     (λ c κs. search rules)
     (λ c. search rules)
-    (λ c. rw c.before.with-place.ensures))
+    (λ c. rw c.with_place-inner.ensures))

@@ -12,27 +12,27 @@ over_spec =
     tie.close
     (tie.spec
     (λ c. search rules)
-    (λ c κs. valid-asks c.before.before.before.before.before.before.requires.0.base.sound)
+    (λ c κs. valid-asks c.requires.0.base.sound)
     (λ c κs. (
-      box-asks c.before.before.root-arrow.result c.before.before.root-arrow.ensures
-          c.before.before.before.before.before.before.before.before.before.requires.0,
-      c.before.before.before.before.before.before.before.before.before.requires.1,
+      box-asks c.root_arrow-valid.result c.root_arrow-valid.ensures
+          c.requires.0,
+      c.requires.1,
     ))
     (λ c. search rules)
-    (λ c κs. c.before.before.before.before.before.before.before.requires)
+    (λ c κs. c.requires)
     (λ c. search rules)
     (λ c. search rules)
     (λ c. (
-      rw c.before.before.before.before.before.before.before.before.before.enum_told.given.1
-          (box_read c.before.before.before.before.before.before.before.root-arrow.result
-          c.before.before.before.before.before.before.before.root-arrow.ensures
-          (record { box = c.before.before.before.before.boxed.ensures.0 })),
-      c.before.before.before.before.boxed.ensures.1,
+      rw c.in-All.is
+          (box_read c.root_arrow-valid.result
+          c.root_arrow-valid.ensures
+          (record { box = c.boxed.ensures.0 })),
+      c.boxed.ensures.1,
     ))
     (λ c. search rules)
     (λ c. search rules)
     (λ c. (
-      rw c.before.before.before.before.before.before.before.enum-told2.given.1
-          c.before.before.before.before.diamond.ensures.0,
-      c.before.before.before.before.diamond.ensures.1,
+      rw c.in-Some.is
+          c.diamond.ensures.0,
+      c.diamond.ensures.1,
     )))

@@ -16,21 +16,21 @@ reach_spec =
     tie.close
     (tie.spec
     (λ c. search rules)
-    (λ c κs. reach-relation c.before.before.before.before.requires.0)
-    (λ c. sym (length-take-le _ _ (reach-within c.before.before.before.before.before.before.before.before.before.requires.0)))
+    (λ c κs. reach-relation c.requires.0)
+    (λ c. sym (length-take-le _ _ (reach-within c.requires.0)))
     (λ c κs. (
-      reach-asks c.before.before.before.before.before.before.before.before.before.requires.0
-          c.before.before.before.before.root-arrow.result c.before.before.before.before.root-arrow.ensures,
-      c.before.before.before.before.before.before.before.before.before.requires.1,
+      reach-asks c.requires.0
+          c.root_arrow-relation.result c.root_arrow-relation.ensures,
+      c.requires.1,
     ))
     (λ c κs. search rules)
     (λ c. search rules)
     (λ c. search rules)
     (λ c. (
-      reach-answers c.before.before.before.before.before.before.before.before.before.before.root-arrow.result
-          c.before.before.before.before.before.before.before.before.before.before.root-arrow.ensures
-          c.before.before.before.before.before.over.result
-          c.before.before.before.before.before.before.before.before.before.before.before.before.before.before.before.args.m
-          c.before.before.before.before.before.over.ensures.0 c.answer.ensures,
-      c.before.before.before.before.before.over.ensures.1,
+      reach-answers c.root_arrow-relation.result
+          c.root_arrow-relation.ensures
+          c.over-taken.result
+          c.args.m
+          c.over-taken.ensures.0 c.answer.ensures,
+      c.over-taken.ensures.1,
     )))

@@ -12,6 +12,6 @@ truth_spec =
     tie.close
     (tie.spec
     (λ c κs. search rules)
-    (λ c κs. c.before.before.before.requires)
-    (λ c. truth-valid (sym c.before.before.only_now.ensures ∙ c.before.if1.true) c.root-arrow.ensures)
-    (λ c. truth-all (sym c.before.only_now.ensures ∙ c.if1.false)))
+    (λ c κs. c.requires)
+    (λ c. truth-valid (sym c.only_now.ensures ∙ c.if-only_now.true) c.root_arrow.ensures)
+    (λ c. truth-all (sym c.only_now.ensures ∙ c.if-only_now.false)))

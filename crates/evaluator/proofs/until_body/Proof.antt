@@ -14,5 +14,5 @@ until_body_spec =
     (λ c κs. search rules)
     (λ c. search rules)
     (λ c. search rules)
-    (λ c. body_unread c.before.before.syntax.ensures c.enum_told.given.1)
-    (λ c. body-read c.before.before.before.syntax.ensures c.before.middle.given.1))
+    (λ c. body_unread c.syntax.ensures c.in_default.is)
+    (λ c. body-read c.syntax.ensures c.in-Past.is))

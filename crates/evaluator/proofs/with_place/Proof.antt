@@ -13,4 +13,4 @@ pub with_place_spec : {M : Type 1} → statement M
 with_place_spec =
     tie.close
     (tie.spec (λ c. search rules) (λ c. search rules) (λ c. search rules)
-    (λ c. let h : length c.before.args.places ≡ 16 = search rules in sym (set_out _ _ _ (omega arith))))
+    (λ c. let h : length c.args.places ≡ 16 = search rules in sym (set_out _ _ _ (omega arith))))

@@ -13,12 +13,12 @@ pub within_spec : {M : Type 1} → statement M
 within_spec =
     tie.close
     (tie.spec
-    (λ c κs. valid-asks c.before.before.before.before.requires.0.ready.base.sound)
+    (λ c κs. valid-asks c.requires.0.ready.base.sound)
     (λ c κs. (
-      first-asks c.before.before.before.root-arrow.result c.before.before.before.root-arrow.ensures
-          c.before.before.before.before.before.before.before.before.requires.0.operand
-          c.before.before.before.before.before.before.before.before.requires.0.ready,
-      c.before.before.before.before.before.before.before.before.requires.1,
+      first-asks c.root_arrow-valid.result c.root_arrow-valid.ensures
+          c.requires.0.operand
+          c.requires.0.ready,
+      c.requires.1,
     ))
     (λ c. search rules)
     (λ c. search rules)
@@ -26,24 +26,24 @@ within_spec =
     (λ c. search rules)
     (λ c. search rules)
     (λ c. (
-      within-full c.before.before.before.before.before.before.before.before.before.before.root-arrow.result
-          c.before.before.before.before.before.before.before.before.before.before.root-arrow.ensures
-          c.before.before.before.before.before.before.before.before.before.before.before.before.before.before.before.requires.0.operand c.before.before.before.before.before.before.live-step.ensures.0 c.enum_told.given.1,
-      c.before.before.before.before.before.before.live-step.ensures.1,
+      within-full c.root_arrow-valid.result
+          c.root_arrow-valid.ensures
+          c.requires.0.operand c.live_step.ensures.0 c.in_default.is,
+      c.live_step.ensures.1,
     ))
     (λ c. omega (
       arith,
-      c.before.before.before.before.before.before.before.before.before.before.before.before.before.before.before.before.requires.0.ready.size,
+      c.requires.0.ready.size,
     ))
     (λ c κs. (
       shift-asks
-          c.before.before.before.before.before.before.before.before.before.before.before.before.before.before.root-arrow.result
-          c.before.before.before.before.before.before.before.before.before.before.before.before.before.before.root-arrow.ensures
-          c.before.before.before.before.before.before.before.before.before.before.before.before.before.before.before.before.before.before.before.requires.0.operand
-          c.before.before.before.before.before.before.before.before.before.before.live-step.ensures.0
-          c.before.before.before.before.b.given.1
-          c.before.before.before.before.before.before.before.before.before.before.before.before.before.before.before.before.before.before.before.requires.0.ready,
-      c.before.before.before.before.before.before.before.before.before.before.live-step.ensures.1,
+          c.root_arrow-valid.result
+          c.root_arrow-valid.ensures
+          c.requires.0.operand
+          c.live_step.ensures.0
+          c.in-At.is
+          c.requires.0.ready,
+      c.live_step.ensures.1,
     ))
     (λ c. search rules)
     (λ c. search rules)
@@ -52,40 +52,40 @@ within_spec =
     (λ c. search rules)
     (λ c. (
       shift-full
-          c.before.before.before.before.before.before.before.before.before.before.before.before.before.before.before.before.before.before.before.before.before.root-arrow.result
-          c.before.before.before.before.before.before.before.before.before.before.before.before.before.before.before.before.before.before.before.before.before.root-arrow.ensures
-          c.before.before.before.before.before.before.before.before.before.before.before.before.before.before.before.before.before.before.before.before.before.before.before.before.before.before.requires.0.operand
-          c.before.before.before.before.before.before.before.before.before.before.before.before.before.before.before.before.before.live-step.ensures.0
-          c.before.before.before.before.before.before.before.before.before.before.before.b.given.1
-          c.before.before.before.before.before.before.live-step2.ensures.0 c.enum-told2.given.1,
-      c.before.before.before.before.before.before.live-step2.ensures.1,
+          c.root_arrow-valid.result
+          c.root_arrow-valid.ensures
+          c.requires.0.operand
+          c.live_step.ensures.0
+          c.in-At.is
+          c.live_step-2.ensures.0 c.in_default-live_step.is,
+      c.live_step-2.ensures.1,
     ))
     (λ c κs. (
       last-asks
-          c.before.before.before.before.before.before.before.before.before.before.before.before.before.before.before.before.before.before.before.before.before.before.before.before.before.root-arrow.result
-          c.before.before.before.before.before.before.before.before.before.before.before.before.before.before.before.before.before.before.before.before.before.before.before.before.before.root-arrow.ensures
-          c.before.before.before.before.before.before.before.before.before.before.before.before.before.before.before.before.before.before.before.before.before.before.before.before.before.before.before.before.before.before.requires.0.operand
-          c.before.before.before.before.before.before.before.before.before.before.before.before.before.before.before.before.before.before.before.before.before.live-step.ensures.0
-          c.before.before.before.before.before.before.before.before.before.before.before.before.before.before.before.b.given.1 c.before.before.before.before.before.before.before.before.before.before.live-step2.ensures.0
-          c.before.before.before.before.c.given.1
-          c.before.before.before.before.before.before.before.before.before.before.before.before.before.before.before.before.before.before.before.before.before.before.before.before.before.before.before.before.before.before.requires.0.ready,
-      c.before.before.before.before.before.before.before.before.before.before.live-step2.ensures.1,
+          c.root_arrow-valid.result
+          c.root_arrow-valid.ensures
+          c.requires.0.operand
+          c.live_step.ensures.0
+          c.in-At.is c.live_step-2.ensures.0
+          c.in-At-live_step.is
+          c.requires.0.ready,
+      c.live_step-2.ensures.1,
     ))
-    (λ c. c.before.before.before.before.live-step3.auto.0
-    ∙ c.before.before.before.before.before.before.before.before.before.before.before.before.before.before.before.live-step2.auto.0
-    ∙ c.before.before.before.before.before.before.before.before.before.before.before.before.before.before.before.before.before.before.before.before.before.before.before.before.before.before.live-step.auto.0)
-    (λ c. c.before.before.before.before.live-step3.auto.1.0
-    ∙ c.before.before.before.before.before.before.before.before.before.before.before.before.before.before.before.live-step2.auto.1.0
-    ∙ c.before.before.before.before.before.before.before.before.before.before.before.before.before.before.before.before.before.before.before.before.before.before.before.before.before.before.live-step.auto.1.0)
+    (λ c. c.live_step-3.auto.words
+    ∙ c.live_step-2.auto.words
+    ∙ c.live_step.auto.words)
+    (λ c. c.live_step-3.auto.counts
+    ∙ c.live_step-2.auto.counts
+    ∙ c.live_step.auto.counts)
     (λ c. search rules)
     (λ c. (
       within-ends
-          c.before.before.before.before.before.before.before.before.before.before.before.before.before.before.before.before.before.before.before.before.before.before.before.before.before.before.before.before.before.before.root-arrow.result
-          c.before.before.before.before.before.before.before.before.before.before.before.before.before.before.before.before.before.before.before.before.before.before.before.before.before.before.before.before.before.before.root-arrow.ensures
-          c.before.before.before.before.before.before.before.before.before.before.before.before.before.before.before.before.before.before.before.before.before.before.before.before.before.before.before.before.before.before.before.before.before.before.before.requires.0.operand
-          c.before.before.before.before.before.before.before.before.before.before.before.before.before.before.before.before.before.before.before.before.before.before.before.before.before.before.live-step.ensures.0
-          c.before.before.before.before.before.before.before.before.before.before.before.before.before.before.before.before.before.before.before.before.b.given.1
-          c.before.before.before.before.before.before.before.before.before.before.before.before.before.before.before.live-step2.ensures.0 c.before.before.before.before.before.before.before.before.before.c.given.1
-          c.before.before.before.before.live-step3.ensures.0,
-      c.before.before.before.before.live-step3.ensures.1,
+          c.root_arrow-valid.result
+          c.root_arrow-valid.ensures
+          c.requires.0.operand
+          c.live_step.ensures.0
+          c.in-At.is
+          c.live_step-2.ensures.0 c.in-At-live_step.is
+          c.live_step-3.ensures.0,
+      c.live_step-3.ensures.1,
     )))

@@ -13,5 +13,5 @@ give_spec =
     (λ c. search rules)
     (λ c. search rules)
     (λ c κs. search rules)
-    (λ c. sym (ap answer_reply c.before.x.given.1))
-    (λ c. ap plain c.refusal-number.ensures ∙ sym (ap answer_reply c.before.before.x2.given.1)))
+    (λ c. sym (ap answer_reply c.in-Value.is))
+    (λ c. ap plain c.refusal_number.ensures ∙ sym (ap answer_reply c.in-Refused.is)))

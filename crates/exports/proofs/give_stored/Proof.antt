@@ -14,5 +14,5 @@ give_stored_spec =
     (λ c. search rules)
     (λ c. search rules)
     (λ c κs. search rules)
-    (λ c. sym (ap stored_reply c.before.x.given.1))
-    (λ c. ap plain c.refusal-number.ensures ∙ sym (ap stored_reply c.before.before.x2.given.1)))
+    (λ c. sym (ap stored_reply c.in-Node.is))
+    (λ c. ap plain c.refusal_number.ensures ∙ sym (ap stored_reply c.in-Refused.is)))

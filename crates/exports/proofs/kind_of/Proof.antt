@@ -5,4 +5,4 @@ use Rattle.exports.proofs.kind_of.Statement.{statement}
 use Rattle.exports.proofs.kind_of.Tie as tie
 
 pub kind_of_spec : {M : Type 1} → statement M
-kind_of_spec = tie.close (tie.spec (λ c. search rules) (λ c. kind-other _ c.if1.false))
+kind_of_spec = tie.close (tie.spec (λ c. search rules) (λ c. kind-other _ c.if-relation-eq0.false))

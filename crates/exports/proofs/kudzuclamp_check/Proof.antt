@@ -15,21 +15,21 @@ kudzuclamp_check_spec =
     (tie.spec
     (λ c κs. search rules)
     (λ c κs. search rules)
-    (λ c. check_unsound _ _ _ (says_fail c.before.if1.true c.before.before.sound.ensures) c.refusal-number.ensures)
-    (λ c κs. let z = (says_pass c.if1.false c.before.sound.ensures).good.sizes in omega arith)
+    (λ c. check_unsound _ _ _ (says_fail c.if-not-sound.true-raw c.sound.ensures) c.refusal_number.ensures)
+    (λ c κs. let z = (says_pass c.if-not-sound.false-raw c.sound.ensures).good.sizes in omega arith)
     (λ c κs. search rules)
     (λ c κs. search rules)
     (λ c. search rules)
     (λ c. search rules)
     (λ c κs. search rules)
-    (λ c. let s = says_pass c.before.before.before.before.before.if1.false
-    c.before.before.before.before.before.before.sound.ensures in
-    check_done _ _ s c.before.before.before.kind-of.ensures
-    (checks-told _ s _ _ c.before.before.before.before.header-word.ensures c.before.before.check-formula.ensures
-    c.enum_told.given.1))
-    (λ c. let s = says_pass c.before.before.before.before.before.before.before.if1.false
-    c.before.before.before.before.before.before.before.before.sound.ensures in
-    check_done _ _ s c.before.before.before.before.before.kind-of.ensures
-    (checks-told _ s _ _ c.before.before.before.before.before.before.header-word.ensures
-    c.before.before.before.before.check-formula.ensures c.before.before.e.given.1
-    ∙ sym c.refusal-number2.ensures)))
+    (λ c. let s = says_pass c.if-not-sound.false-raw
+    c.sound.ensures in
+    check_done _ _ s c.kind_of.ensures
+    (checks-told _ s _ _ c.header_word-n.ensures c.check_formula.ensures
+    c.in-Fit.is))
+    (λ c. let s = says_pass c.if-not-sound.false-raw
+    c.sound.ensures in
+    check_done _ _ s c.kind_of.ensures
+    (checks-told _ s _ _ c.header_word-n.ensures
+    c.check_formula.ensures c.in-Refused.is
+    ∙ sym c.refusal_number-in-Refused.ensures)))

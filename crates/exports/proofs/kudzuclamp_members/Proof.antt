@@ -13,4 +13,4 @@ kudzuclamp_members_spec =
     (λ c κs. search rules)
     (λ c. search rules)
     (λ c. search rules)
-    (λ c. subst (BatchPost _ _ _ _ _ _ _) (sym c.give.ensures) c.before.before.before.before.before.before.members.ensures))
+    (λ c. subst (BatchPost _ _ _ _ _ _ _) (sym c.give.ensures) c.members.ensures))

@@ -9,4 +9,4 @@ pub kudzuclamp_node_spec : {M : Type 1} → statement M
 kudzuclamp_node_spec =
     tie.close
     (tie.spec (λ c κs. search rules) (λ c κs. search rules)
-    (λ c. subst (AskPost _ _) (sym c.give.ensures) c.before.before.node.ensures))
+    (λ c. subst (AskPost _ _) (sym c.give.ensures) c.node.ensures))

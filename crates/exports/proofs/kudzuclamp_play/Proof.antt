@@ -16,11 +16,11 @@ kudzuclamp_play_spec =
     (λ c. search rules)
     (λ c. search rules)
     (λ c. search rules)
-    (λ c. play-given _ _ _ _ _ (Done c.before.x.given.0.0) c.before.before.before.before.before.before.before.play.ensures
-    c.before.x.given.1)
+    (λ c. play-given _ _ _ _ _ (Done c.in-Done.n) c.play-x.ensures
+    c.in-Done.is)
     (λ c. search rules)
     (λ c. search rules)
-    (λ c. play-given _ _ _ _ _ Short c.before.before.before.before.before.before.play.ensures c.enum_told.given.1)
+    (λ c. play-given _ _ _ _ _ Short c.play-x.ensures c.in-Short.is)
     (λ c. search rules)
     (λ c. search rules)
-    (λ c. play-given _ _ _ _ _ Unreadable c.before.before.before.before.before.before.play.ensures c.enum-told2.given.1))
+    (λ c. play-given _ _ _ _ _ Unreadable c.play-x.ensures c.in-Unreadable.is))

@@ -14,4 +14,4 @@ started_number_spec =
     (λ c. search rules)
     (λ c κs. search rules)
     (λ c. search rules)
-    (λ c. ap plain c.refusal-number.ensures ∙ sym (ap started_reply c.before.before.x.given.1)))
+    (λ c. ap plain c.refusal_number.ensures ∙ sym (ap started_reply c.in-Refused.is)))

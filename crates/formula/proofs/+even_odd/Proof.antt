@@ -54,111 +54,111 @@ pub +even_odd_spec : {M : Type 1} → statement M
 )
     (even-at t)
     even.Post
-    (λ c. ans_zero _ _ _ _ _ _ c.if1.true)
+    (λ c. ans_zero _ _ _ _ _ _ c.if-depth-eq0.true)
     (λ c κs. tt)
-    (λ c. c.match.keys1)
-    (λ c. c.match.keys2)
-    (λ c. ans_bad _ _ _ _ _ _ c.before.before.before.if1.false c.before.before.lead-at.ensures c.enum_told.given.1)
+    (λ c. c.in-Is-1.keys1)
+    (λ c. c.in_default-1.keys2)
+    (λ c. ans_bad _ _ _ _ _ _ c.if-depth-eq0.false c.lead_at.ensures c.in_default.is)
     (λ c. omega (
       arith,
-      ans_inside c.before.before.before.before.before.before.args.n
-          c.before.before.before.before.before.before.args.grammar
-          c.before.before.before.before.before.before.args.bytes.now
-          c.before.before.before.before.before.before.args.at
-          c.before.before.before.lead-at.ensures c.before.t.given.1,
+      ans_inside c.args.n
+          c.args.grammar
+          c.args.bytes.now
+          c.args.at
+          c.lead_at.ensures c.in-Is.is,
     ))
     (λ c. omega arith)
-    (λ c. c.match2.keys1)
-    (λ c. c.match2.keys2)
+    (λ c. c.in-Leaf-1.keys1)
+    (λ c. c.in-Not-1.keys2)
     (λ c κs. (
       shorter
-          (ans_inside c.before.before.before.before.before.before.before.before.args.n
-          c.before.before.before.before.before.before.before.before.args.grammar
-          c.before.before.before.before.before.before.before.before.args.bytes.now
-          c.before.before.before.before.before.before.before.before.args.at
-          c.before.before.before.before.before.lead-at.ensures c.before.before.before.t.given.1)
-          c.before.before.before.before.before.before.before.before.requires.0,
+          (ans_inside c.args.n
+          c.args.grammar
+          c.args.bytes.now
+          c.args.at
+          c.lead_at.ensures c.in-Is.is)
+          c.requires.0,
       tt,
     ))
-    (λ c. c.match2.keys3)
+    (λ c. c.in-Both-1.keys3)
     (λ c κs. (
       shorter
-          (ans_inside c.before.before.before.before.before.before.before.before.args.n
-          c.before.before.before.before.before.before.before.before.args.grammar
-          c.before.before.before.before.before.before.before.before.args.bytes.now
-          c.before.before.before.before.before.before.before.before.args.at
-          c.before.before.before.before.before.lead-at.ensures c.before.before.before.t.given.1)
-          c.before.before.before.before.before.before.before.before.requires.0,
+          (ans_inside c.args.n
+          c.args.grammar
+          c.args.bytes.now
+          c.args.at
+          c.lead_at.ensures c.in-Is.is)
+          c.requires.0,
       tt,
     ))
-    (λ c. c.match3.keys1)
-    (λ c. c.match3.keys2)
-    (λ c. ans_both_bad _ _ _ _ _ _ c.before.before.before.before.before.before.before.before.before.if1.false
-    c.before.before.before.before.before.before.before.before.lead-at.ensures
-    c.before.before.before.before.before.before.t.given.1 c.before.before.before.enum-told4.given.1
-    c.before.before.even.ensures c.enum-told5.given.1)
+    (λ c. c.in-Past-1.keys1)
+    (λ c. c.in_default-even-1.keys2)
+    (λ c. ans_both_bad _ _ _ _ _ _ c.if-depth-eq0.false
+    c.lead_at.ensures
+    c.in-Is.is c.in-Both.is
+    c.even.ensures c.in_default-even.is)
     (λ c κs. (
       shorter_past
-          (ans_inside c.before.before.before.before.before.before.before.before.before.before.before.before.args.n
-          c.before.before.before.before.before.before.before.before.before.before.before.before.args.grammar
-          c.before.before.before.before.before.before.before.before.before.before.before.before.args.bytes.now
-          c.before.before.before.before.before.before.before.before.before.before.before.before.args.at
-          c.before.before.before.before.before.before.before.before.before.lead-at.ensures
-          c.before.before.before.before.before.before.before.t.given.1)
-          (pass_ahead c.before.before.before.before.before.before.before.before.before.before.before.before.args.n
-          c.before.before.before.before.before.before.before.before.before.before.before.before.args.grammar
-          c.before.before.before.before.before.before.before.before.before.before.before.before.args.bytes.now
-          (reads true c.before.before.before.before.before.before.before.before.before.before.before.before.args.p)
-          (c.before.before.before.before.before.before.before.before.before.before.before.before.args.depth - 1)
-          (c.before.before.before.before.before.before.before.before.before.before.before.before.args.at + 1)
-          c.before.before.before.even.ensures c.before.mid.given.1)
-          c.before.before.before.before.before.before.before.before.before.before.before.before.requires.0,
+          (ans_inside c.args.n
+          c.args.grammar
+          c.args.bytes.now
+          c.args.at
+          c.lead_at.ensures
+          c.in-Is.is)
+          (pass_ahead c.args.n
+          c.args.grammar
+          c.args.bytes.now
+          (reads true c.args.p)
+          (c.args.depth - 1)
+          (c.args.at + 1)
+          c.even.ensures c.in-Past.is)
+          c.requires.0,
       tt,
     ))
     (λ c κs. tt)
-    (λ c. c.match2.keys4)
+    (λ c. c.in-Modal-1.keys4)
     (λ c κs. (
       shorter
-          (ans_inside c.before.before.before.before.before.before.before.before.args.n
-          c.before.before.before.before.before.before.before.before.args.grammar
-          c.before.before.before.before.before.before.before.before.args.bytes.now
-          c.before.before.before.before.before.before.before.before.args.at
-          c.before.before.before.before.before.lead-at.ensures c.before.before.before.t.given.1)
-          c.before.before.before.before.before.before.before.before.requires.0,
+          (ans_inside c.args.n
+          c.args.grammar
+          c.args.bytes.now
+          c.args.at
+          c.lead_at.ensures c.in-Is.is)
+          c.requires.0,
       tt,
     ))
-    (λ c. c.match2.keys5)
+    (λ c. c.in-Binder-1.keys5)
     (λ c κs. (
       shorter
-          (ans_inside c.before.before.before.before.before.before.before.before.args.n
-          c.before.before.before.before.before.before.before.before.args.grammar
-          c.before.before.before.before.before.before.before.before.args.bytes.now
-          c.before.before.before.before.before.before.before.before.args.at
-          c.before.before.before.before.before.lead-at.ensures c.before.before.before.t.given.1)
-          c.before.before.before.before.before.before.before.before.requires.0,
+          (ans_inside c.args.n
+          c.args.grammar
+          c.args.bytes.now
+          c.args.at
+          c.lead_at.ensures c.in-Is.is)
+          c.requires.0,
       tt,
     ))
-    (λ c. ans_leaf _ _ _ _ _ _ c.before.before.before.before.before.before.if1.false
-    c.before.before.before.before.before.lead-at.ensures c.before.before.before.t.given.1 c.enum-told2.given.1
-    (reads_leaf c.before.before.before.before.before.before.before.before.args.p c.enum-told2.given.0.0))
-    (λ c. ans_same _ _ _ _ _ _ c.before.before.before.before.before.before.before.if1.false
-    c.before.before.before.before.before.before.lead-at.ensures c.before.before.before.before.t.given.1
-    c.before.enum-told3.given.1 is-not _ (reads_neg _ _) c.odd.ensures)
+    (λ c. ans_leaf _ _ _ _ _ _ c.if-depth-eq0.false
+    c.lead_at.ensures c.in-Is.is c.in-Leaf.is
+    (reads_leaf c.args.p c.in-Leaf.field-0))
+    (λ c. ans_same _ _ _ _ _ _ c.if-depth-eq0.false
+    c.lead_at.ensures c.in-Is.is
+    c.in-Not.is is-not _ (reads_neg _ _) c.odd.ensures)
     (λ c. ans_both _ _ _ _ _ _
-    c.before.before.before.before.before.before.before.before.before.before.before.before.if1.false
-    c.before.before.before.before.before.before.before.before.before.before.before.lead-at.ensures
-    c.before.before.before.before.before.before.before.before.before.t.given.1
-    c.before.before.before.before.before.before.enum-told4.given.1 (reads_join _ _)
-    c.before.before.before.before.before.even.ensures c.before.before.before.mid.given.1 c.before.even2.ensures
+    c.if-depth-eq0.false
+    c.lead_at.ensures
+    c.in-Is.is
+    c.in-Both.is (reads_join _ _)
+    c.even.ensures c.in-Past.is c.even-in-Both.ensures
     c.also.ensures)
-    (λ c. ans_same _ _ _ _ _ _ c.before.before.before.before.before.before.before.if1.false
-    c.before.before.before.before.before.before.lead-at.ensures c.before.before.before.before.t.given.1
-    c.before.enum-told6.given.1 (is-modal _ _) _
-    (reads_modal _ _ c.before.enum-told6.given.0.0 c.before.enum-told6.given.0.1.0) c.even3.ensures)
-    (λ c. ans_same _ _ _ _ _ _ c.before.before.before.before.before.before.before.if1.false
-    c.before.before.before.before.before.before.lead-at.ensures c.before.before.before.before.t.given.1
-    c.before.enum-told7.given.1 (is_binder _ _) _
-    (reads_binder _ _ c.before.enum-told7.given.0.0 c.before.enum-told7.given.0.1.0) c.even4.ensures))
+    (λ c. ans_same _ _ _ _ _ _ c.if-depth-eq0.false
+    c.lead_at.ensures c.in-Is.is
+    c.in-Modal.is (is-modal _ _) _
+    (reads_modal _ _ c.in-Modal.field-0 c.in-Modal.field-1) c.even-in-Modal.ensures)
+    (λ c. ans_same _ _ _ _ _ _ c.if-depth-eq0.false
+    c.lead_at.ensures c.in-Is.is
+    c.in-Binder.is (is_binder _ _) _
+    (reads_binder _ _ c.in-Binder.field-0 c.in-Binder.field-1) c.even-in-Binder.ensures))
     λ t. odd-lts.spec (
       lead-at-reads.Asked,
       lead-at-reads.Learnt,
@@ -173,109 +173,109 @@ pub +even_odd_spec : {M : Type 1} → statement M
     )
     (odd-at t)
     odd.Post
-    (λ c. ans_zero _ _ _ _ _ _ c.if1.true)
+    (λ c. ans_zero _ _ _ _ _ _ c.if-depth-eq0.true)
     (λ c κs. tt)
-    (λ c. c.match.keys1)
-    (λ c. c.match.keys2)
-    (λ c. ans_bad _ _ _ _ _ _ c.before.before.before.if1.false c.before.before.lead-at.ensures c.enum_told.given.1)
+    (λ c. c.in-Is-1.keys1)
+    (λ c. c.in_default-1.keys2)
+    (λ c. ans_bad _ _ _ _ _ _ c.if-depth-eq0.false c.lead_at.ensures c.in_default.is)
     (λ c. omega (
       arith,
-      ans_inside c.before.before.before.before.before.before.args.n
-          c.before.before.before.before.before.before.args.grammar
-          c.before.before.before.before.before.before.args.bytes.now
-          c.before.before.before.before.before.before.args.at
-          c.before.before.before.lead-at.ensures c.before.t.given.1,
+      ans_inside c.args.n
+          c.args.grammar
+          c.args.bytes.now
+          c.args.at
+          c.lead_at.ensures c.in-Is.is,
     ))
     (λ c. omega arith)
-    (λ c. c.match2.keys1)
+    (λ c. c.in-Leaf-1.keys1)
     (λ c κs. tt)
-    (λ c. c.match2.keys2)
+    (λ c. c.in-Not-1.keys2)
     (λ c κs. (
       shorter
-          (ans_inside c.before.before.before.before.before.before.before.before.args.n
-          c.before.before.before.before.before.before.before.before.args.grammar
-          c.before.before.before.before.before.before.before.before.args.bytes.now
-          c.before.before.before.before.before.before.before.before.args.at
-          c.before.before.before.before.before.lead-at.ensures c.before.before.before.t.given.1)
-          c.before.before.before.before.before.before.before.before.requires.0,
+          (ans_inside c.args.n
+          c.args.grammar
+          c.args.bytes.now
+          c.args.at
+          c.lead_at.ensures c.in-Is.is)
+          c.requires.0,
       tt,
     ))
-    (λ c. c.match2.keys3)
+    (λ c. c.in-Both-1.keys3)
     (λ c κs. (
       shorter
-          (ans_inside c.before.before.before.before.before.before.before.before.args.n
-          c.before.before.before.before.before.before.before.before.args.grammar
-          c.before.before.before.before.before.before.before.before.args.bytes.now
-          c.before.before.before.before.before.before.before.before.args.at
-          c.before.before.before.before.before.lead-at.ensures c.before.before.before.t.given.1)
-          c.before.before.before.before.before.before.before.before.requires.0,
+          (ans_inside c.args.n
+          c.args.grammar
+          c.args.bytes.now
+          c.args.at
+          c.lead_at.ensures c.in-Is.is)
+          c.requires.0,
       tt,
     ))
-    (λ c. c.match3.keys1)
-    (λ c. c.match3.keys2)
-    (λ c. ans_both_bad _ _ _ _ _ _ c.before.before.before.before.before.before.before.before.before.if1.false
-    c.before.before.before.before.before.before.before.before.lead-at.ensures
-    c.before.before.before.before.before.before.t.given.1 c.before.before.before.enum-told3.given.1
-    c.before.before.odd.ensures c.enum-told4.given.1)
+    (λ c. c.in-Past-1.keys1)
+    (λ c. c.in_default-odd-1.keys2)
+    (λ c. ans_both_bad _ _ _ _ _ _ c.if-depth-eq0.false
+    c.lead_at.ensures
+    c.in-Is.is c.in-Both.is
+    c.odd.ensures c.in_default-odd.is)
     (λ c κs. (
       shorter_past
-          (ans_inside c.before.before.before.before.before.before.before.before.before.before.before.before.args.n
-          c.before.before.before.before.before.before.before.before.before.before.before.before.args.grammar
-          c.before.before.before.before.before.before.before.before.before.before.before.before.args.bytes.now
-          c.before.before.before.before.before.before.before.before.before.before.before.before.args.at
-          c.before.before.before.before.before.before.before.before.before.lead-at.ensures
-          c.before.before.before.before.before.before.before.t.given.1)
-          (pass_ahead c.before.before.before.before.before.before.before.before.before.before.before.before.args.n
-          c.before.before.before.before.before.before.before.before.before.before.before.before.args.grammar
-          c.before.before.before.before.before.before.before.before.before.before.before.before.args.bytes.now
-          (reads false c.before.before.before.before.before.before.before.before.before.before.before.before.args.p)
-          (c.before.before.before.before.before.before.before.before.before.before.before.before.args.depth - 1)
-          (c.before.before.before.before.before.before.before.before.before.before.before.before.args.at + 1)
-          c.before.before.before.odd.ensures c.before.mid.given.1)
-          c.before.before.before.before.before.before.before.before.before.before.before.before.requires.0,
+          (ans_inside c.args.n
+          c.args.grammar
+          c.args.bytes.now
+          c.args.at
+          c.lead_at.ensures
+          c.in-Is.is)
+          (pass_ahead c.args.n
+          c.args.grammar
+          c.args.bytes.now
+          (reads false c.args.p)
+          (c.args.depth - 1)
+          (c.args.at + 1)
+          c.odd.ensures c.in-Past.is)
+          c.requires.0,
       tt,
     ))
     (λ c κs. tt)
-    (λ c. c.match2.keys4)
+    (λ c. c.in-Modal-1.keys4)
     (λ c κs. (
       shorter
-          (ans_inside c.before.before.before.before.before.before.before.before.args.n
-          c.before.before.before.before.before.before.before.before.args.grammar
-          c.before.before.before.before.before.before.before.before.args.bytes.now
-          c.before.before.before.before.before.before.before.before.args.at
-          c.before.before.before.before.before.lead-at.ensures c.before.before.before.t.given.1)
-          c.before.before.before.before.before.before.before.before.requires.0,
+          (ans_inside c.args.n
+          c.args.grammar
+          c.args.bytes.now
+          c.args.at
+          c.lead_at.ensures c.in-Is.is)
+          c.requires.0,
       tt,
     ))
-    (λ c. c.match2.keys5)
+    (λ c. c.in-Binder-1.keys5)
     (λ c κs. (
       shorter
-          (ans_inside c.before.before.before.before.before.before.before.before.args.n
-          c.before.before.before.before.before.before.before.before.args.grammar
-          c.before.before.before.before.before.before.before.before.args.bytes.now
-          c.before.before.before.before.before.before.before.before.args.at
-          c.before.before.before.before.before.lead-at.ensures c.before.before.before.t.given.1)
-          c.before.before.before.before.before.before.before.before.requires.0,
+          (ans_inside c.args.n
+          c.args.grammar
+          c.args.bytes.now
+          c.args.at
+          c.lead_at.ensures c.in-Is.is)
+          c.requires.0,
       tt,
     ))
-    (λ c. ans_leaf _ _ _ _ _ _ c.before.before.before.before.before.before.before.before.if1.false
-    c.before.before.before.before.before.before.before.lead-at.ensures
-    c.before.before.before.before.before.t.given.1 c.before.before.t2.given.1 c.not-var.ensures)
-    (λ c. ans_same _ _ _ _ _ _ c.before.before.before.before.before.before.before.if1.false
-    c.before.before.before.before.before.before.lead-at.ensures c.before.before.before.before.t.given.1
-    c.before.enum-told2.given.1 is-not _ (reads_neg _ _) c.even.ensures)
+    (λ c. ans_leaf _ _ _ _ _ _ c.if-depth-eq0.false
+    c.lead_at.ensures
+    c.in-Is.is c.in-Leaf.is c.not_var.ensures)
+    (λ c. ans_same _ _ _ _ _ _ c.if-depth-eq0.false
+    c.lead_at.ensures c.in-Is.is
+    c.in-Not.is is-not _ (reads_neg _ _) c.even.ensures)
     (λ c. ans_both _ _ _ _ _ _
-    c.before.before.before.before.before.before.before.before.before.before.before.before.if1.false
-    c.before.before.before.before.before.before.before.before.before.before.before.lead-at.ensures
-    c.before.before.before.before.before.before.before.before.before.t.given.1
-    c.before.before.before.before.before.before.enum-told3.given.1 (reads_join _ _)
-    c.before.before.before.before.before.odd.ensures c.before.before.before.mid.given.1 c.before.odd2.ensures
+    c.if-depth-eq0.false
+    c.lead_at.ensures
+    c.in-Is.is
+    c.in-Both.is (reads_join _ _)
+    c.odd.ensures c.in-Past.is c.odd-in-Both.ensures
     c.also.ensures)
-    (λ c. ans_same _ _ _ _ _ _ c.before.before.before.before.before.before.before.if1.false
-    c.before.before.before.before.before.before.lead-at.ensures c.before.before.before.before.t.given.1
-    c.before.enum-told5.given.1 (is-modal _ _) _
-    (reads_modal _ _ c.before.enum-told5.given.0.0 c.before.enum-told5.given.0.1.0) c.odd3.ensures)
-    (λ c. ans_same _ _ _ _ _ _ c.before.before.before.before.before.before.before.if1.false
-    c.before.before.before.before.before.before.lead-at.ensures c.before.before.before.before.t.given.1
-    c.before.enum-told6.given.1 (is_binder _ _) _
-    (reads_binder _ _ c.before.enum-told6.given.0.0 c.before.enum-told6.given.0.1.0) c.odd4.ensures)
+    (λ c. ans_same _ _ _ _ _ _ c.if-depth-eq0.false
+    c.lead_at.ensures c.in-Is.is
+    c.in-Modal.is (is-modal _ _) _
+    (reads_modal _ _ c.in-Modal.field-0 c.in-Modal.field-1) c.odd-in-Modal.ensures)
+    (λ c. ans_same _ _ _ _ _ _ c.if-depth-eq0.false
+    c.lead_at.ensures c.in-Is.is
+    c.in-Binder.is (is_binder _ _) _
+    (reads_binder _ _ c.in-Binder.field-0 c.in-Binder.field-1) c.odd-in-Binder.ensures)

@@ -49,84 +49,84 @@ pub +scan_at_spec : {M : Type 1} → statement M
 )
     (scan_at-at t)
     scan-at.Post
-    (λ c. scan_zero _ _ _ _ _ _ c.if1.true)
+    (λ c. scan_zero _ _ _ _ _ _ c.if-depth-eq0.true)
     (λ c κs. tt)
-    (λ c. c.match.keys1)
-    (λ c. c.match.keys2)
-    (λ c. scan_bad _ _ _ _ _ _ c.before.before.before.if1.false c.before.before.lead-at.ensures c.enum_told.given.1)
+    (λ c. c.in-Is-1.keys1)
+    (λ c. c.in_default-1.keys2)
+    (λ c. scan_bad _ _ _ _ _ _ c.if-depth-eq0.false c.lead_at.ensures c.in_default.is)
     (λ c. omega (
       arith,
-      ans_inside c.before.before.before.before.before.before.args.n
-          c.before.before.before.before.before.before.args.grammar
-          c.before.before.before.before.before.before.args.bytes.now
-          c.before.before.before.before.before.before.args.at
-          c.before.before.before.lead-at.ensures c.before.t.given.1,
+      ans_inside c.args.n
+          c.args.grammar
+          c.args.bytes.now
+          c.args.at
+          c.lead_at.ensures c.in-Is.is,
     ))
     (λ c. search rules)
-    (λ c. c.match2.keys1)
-    (λ c κs. leaf-small _ _ _ _ c.before.before.before.before.before.before.lead-at.ensures
-    c.before.before.before.before.t.given.1 c.before.t2.given.1)
-    (λ c. c.match2.keys2)
+    (λ c. c.in-Leaf-1.keys1)
+    (λ c κs. leaf-small _ _ _ _ c.lead_at.ensures
+    c.in-Is.is c.in-Leaf.is)
+    (λ c. c.in-Not-1.keys2)
     (λ c κs. (
-      shallower c.before.before.before.before.before.before.if1.false
-          c.before.before.before.before.before.before.before.before.requires.0,
+      shallower c.if-depth-eq0.false
+          c.requires.0,
       tt,
     ))
-    (λ c. c.match2.keys3)
+    (λ c. c.in-Both-1.keys3)
     (λ c κs. (
-      shallower c.before.before.before.before.before.before.if1.false
-          c.before.before.before.before.before.before.before.before.requires.0,
+      shallower c.if-depth-eq0.false
+          c.requires.0,
       tt,
     ))
-    (λ c. c.match3.keys1)
-    (λ c. c.match3.keys2)
-    (λ c. scan_both_bad _ _ _ _ _ _ c.before.before.before.before.before.before.before.before.before.if1.false
-    c.before.before.before.before.before.before.before.before.lead-at.ensures
-    c.before.before.before.before.before.before.t.given.1 c.before.before.before.enum-told3.given.1
-    c.before.before.scan-at2.ensures c.enum-told4.given.1)
+    (λ c. c.in-Past-1.keys1)
+    (λ c. c.in_default-scan_at-1.keys2)
+    (λ c. scan_both_bad _ _ _ _ _ _ c.if-depth-eq0.false
+    c.lead_at.ensures
+    c.in-Is.is c.in-Both.is
+    c.scan_at-in-Both.ensures c.in_default-scan_at.is)
     (λ c κs. (
-      shallower c.before.before.before.before.before.before.before.before.before.before.if1.false
-          c.before.before.before.before.before.before.before.before.before.before.before.before.requires.0,
+      shallower c.if-depth-eq0.false
+          c.requires.0,
       tt,
     ))
     (λ c κs. tt)
-    (λ c. c.match2.keys4)
+    (λ c. c.in-Modal-1.keys4)
     (λ c κs. (
-      shallower c.before.before.before.before.before.before.if1.false
-          c.before.before.before.before.before.before.before.before.requires.0,
+      shallower c.if-depth-eq0.false
+          c.requires.0,
       tt,
     ))
-    (λ c. c.match2.keys5)
-    (λ c κs. binder_small _ _ _ _ c.before.before.before.before.before.before.lead-at.ensures
-    c.before.before.before.before.t.given.1 c.before.t3.given.1)
-    (λ c κs. binder_small _ _ _ _ c.before.before.before.before.before.before.before.lead-at.ensures
-    c.before.before.before.before.before.t.given.1 c.before.before.t3.given.1)
+    (λ c. c.in-Binder-1.keys5)
+    (λ c κs. binder_small _ _ _ _ c.lead_at.ensures
+    c.in-Is.is c.in-Binder.is)
+    (λ c κs. binder_small _ _ _ _ c.lead_at.ensures
+    c.in-Is.is c.in-Binder.is)
     (λ c κs. (
-      shallower c.before.before.before.before.before.before.before.before.before.if1.false
-          c.before.before.before.before.before.before.before.before.before.before.before.requires.0,
+      shallower c.if-depth-eq0.false
+          c.requires.0,
       tt,
     ))
-    (λ c κs. binder_small _ _ _ _ c.before.before.before.before.before.before.before.before.before.lead-at.ensures
-    c.before.before.before.before.before.before.before.t.given.1 c.before.before.before.before.t3.given.1)
-    (λ c. scan_token _ _ _ _ _ _ c.before.before.before.before.before.before.before.before.if1.false
-    c.before.before.before.before.before.before.before.lead-at.ensures
-    c.before.before.before.before.before.t.given.1 c.before.before.t2.given.1 c.leaf-scan.ensures)
-    (λ c. scan_alike _ _ _ _ _ _ c.before.before.before.before.before.before.before.if1.false
-    c.before.before.before.before.before.before.lead-at.ensures c.before.before.before.before.t.given.1
-    c.before.enum-told2.given.1 is-not alike_neg c.scan-at.ensures)
+    (λ c κs. binder_small _ _ _ _ c.lead_at.ensures
+    c.in-Is.is c.in-Binder.is)
+    (λ c. scan_token _ _ _ _ _ _ c.if-depth-eq0.false
+    c.lead_at.ensures
+    c.in-Is.is c.in-Leaf.is c.leaf_scan.ensures)
+    (λ c. scan_alike _ _ _ _ _ _ c.if-depth-eq0.false
+    c.lead_at.ensures c.in-Is.is
+    c.in-Not.is is-not alike_neg c.scan_at.ensures)
     (λ c. scan_both _ _ _ _ _ _
-    c.before.before.before.before.before.before.before.before.before.before.before.before.if1.false
-    c.before.before.before.before.before.before.before.before.before.before.before.lead-at.ensures
-    c.before.before.before.before.before.before.before.before.before.t.given.1
-    c.before.before.before.before.before.before.enum-told3.given.1
-    c.before.before.before.before.before.scan-at2.ensures c.before.before.before.mid.given.1
-    c.before.scan-at3.ensures c.joined.ensures)
-    (λ c. scan_alike _ _ _ _ _ _ c.before.before.before.before.before.before.before.if1.false
-    c.before.before.before.before.before.before.lead-at.ensures c.before.before.before.before.t.given.1
-    c.before.enum-told5.given.1 (is-modal _ _)
-    (alike_modal c.before.enum-told5.given.0.0 c.before.enum-told5.given.0.1.0) c.scan-at4.ensures)
-    (λ c. scan_binder _ _ _ _ _ _ c.before.before.before.before.before.before.before.before.before.before.before.if1.false
-    c.before.before.before.before.before.before.before.before.before.before.lead-at.ensures
-    c.before.before.before.before.before.before.before.before.t.given.1
-    c.before.before.before.before.before.t3.given.1 c.before.before.before.has.ensures
-    c.before.before.single.ensures refl c.before.scan-at5.ensures c.closed.ensures)
+    c.if-depth-eq0.false
+    c.lead_at.ensures
+    c.in-Is.is
+    c.in-Both.is
+    c.scan_at-in-Both.ensures c.in-Past.is
+    c.scan_at-in-Both-2.ensures c.joined.ensures)
+    (λ c. scan_alike _ _ _ _ _ _ c.if-depth-eq0.false
+    c.lead_at.ensures c.in-Is.is
+    c.in-Modal.is (is-modal _ _)
+    (alike_modal c.in-Modal.field-0 c.in-Modal.field-1) c.scan_at-in-Modal.ensures)
+    (λ c. scan_binder _ _ _ _ _ _ c.if-depth-eq0.false
+    c.lead_at.ensures
+    c.in-Is.is
+    c.in-Binder.is c.has-fresh.ensures
+    c.single.ensures refl c.scan_at-in-Binder.ensures c.closed.ensures)

@@ -11,55 +11,55 @@ check_tree_spec =
     tie.close
     (tie.spec
     (λ c κs. tt)
-    (λ c. c.match.keys1)
-    (λ c. c.match.keys2)
-    (λ c. unscanned _ _ _ _ _ c.before.before.scan-at.ensures c.enum_told.given.1)
-    (λ c. verdict _ _ _ _ _ c.before.before.before.before.scan-at.ensures c.before.before.bound.given.1
-    (not-true _ c.if1.true) refl refl refl)
-    (λ c. verdict _ _ _ _ _ c.before.before.before.before.before.scan-at.ensures c.before.before.before.bound.given.1
-    (not-false _ c.before.if1.false) (not-true _ c.if2.true) refl refl)
+    (λ c. c.in-Past-1.keys1)
+    (λ c. c.in_default-1.keys2)
+    (λ c. unscanned _ _ _ _ _ c.scan_at.ensures c.in_default.is)
+    (λ c. verdict _ _ _ _ _ c.scan_at.ensures c.in-Past.is
+    (not-true _ c.if-not-bound.true-raw) refl refl refl)
+    (λ c. verdict _ _ _ _ _ c.scan_at.ensures c.in-Past.is
+    (not-false _ c.if-not-bound.false-raw) (not-true _ c.if-not-named.true-raw) refl refl)
     (λ c κs. tt)
-    (λ c. c.match2.keys1)
-    (λ c. c.match2.keys2)
-    (λ c. misread _ _ _ _ _ steady c.before.before.steady-at.ensures c.enum-told2.given.1)
-    (λ c. verdict _ _ _ _ _ c.before.before.before.before.before.before.before.before.before.before.scan-at.ensures
-    c.before.before.before.before.before.before.before.before.bound.given.1
-    (not-false _ c.before.before.before.before.before.before.if1.false)
-    (not-false _ c.before.before.before.before.before.if2.false)
-    (tells _ _ _ _ _ c.before.before.before.before.before.before.before.before.before.before.scan-at.ensures
-    c.before.before.before.before.before.before.before.before.bound.given.1 steady
-    c.before.before.before.before.steady-at.ensures c.before.before.steady.given.1 ∙ not-true _ c.if3.true) refl)
+    (λ c. c.in-Past-steady_at-1.keys1)
+    (λ c. c.in_default-steady_at-1.keys2)
+    (λ c. misread _ _ _ _ _ steady c.steady_at.ensures c.in_default-steady_at.is)
+    (λ c. verdict _ _ _ _ _ c.scan_at.ensures
+    c.in-Past.is
+    (not-false _ c.if-not-bound.false-raw)
+    (not-false _ c.if-not-named.false-raw)
+    (tells _ _ _ _ _ c.scan_at.ensures
+    c.in-Past.is steady
+    c.steady_at.ensures c.in-Past-steady_at.is ∙ not-true _ c.if-not-steady.true-raw) refl)
     (λ c κs. tt)
-    (λ c. c.match3.keys1)
-    (λ c. c.match3.keys2)
-    (λ c. misread _ _ _ _ _ _ c.before.before.filled_at.ensures c.enum-told3.given.1)
+    (λ c. c.in-Past-filled_at-1.keys1)
+    (λ c. c.in_default-filled_at-1.keys2)
+    (λ c. misread _ _ _ _ _ _ c.filled_at.ensures c.in_default-filled_at.is)
     (λ c. verdict _ _ _ _ _
-    c.before.before.before.before.before.before.before.before.before.before.before.before.before.before.before.scan-at.ensures
-    c.before.before.before.before.before.before.before.before.before.before.before.before.before.bound.given.1
-    (not-false _ c.before.before.before.before.before.before.before.before.before.before.before.if1.false)
-    (not-false _ c.before.before.before.before.before.before.before.before.before.before.if2.false)
+    c.scan_at.ensures
+    c.in-Past.is
+    (not-false _ c.if-not-bound.false-raw)
+    (not-false _ c.if-not-named.false-raw)
     (tells _ _ _ _ _
-    c.before.before.before.before.before.before.before.before.before.before.before.before.before.before.before.scan-at.ensures
-    c.before.before.before.before.before.before.before.before.before.before.before.before.before.bound.given.1 steady
-    c.before.before.before.before.before.before.before.before.before.steady-at.ensures
-    c.before.before.before.before.before.before.before.steady.given.1
-    ∙ not-false _ c.before.before.before.before.before.if3.false)
+    c.scan_at.ensures
+    c.in-Past.is steady
+    c.steady_at.ensures
+    c.in-Past-steady_at.is
+    ∙ not-false _ c.if-not-steady.false-raw)
     (tells _ _ _ _ _
-    c.before.before.before.before.before.before.before.before.before.before.before.before.before.before.before.scan-at.ensures
-    c.before.before.before.before.before.before.before.before.before.before.before.before.before.bound.given.1 _
-    c.before.before.before.before.filled_at.ensures c.before.before.full.given.1 ∙ not-true _ c.if4.true))
+    c.scan_at.ensures
+    c.in-Past.is _
+    c.filled_at.ensures c.in-Past-filled_at.is ∙ not-true _ c.if-not-full.true-raw))
     (λ c. verdict _ _ _ _ _
-    c.before.before.before.before.before.before.before.before.before.before.before.before.before.before.before.scan-at.ensures
-    c.before.before.before.before.before.before.before.before.before.before.before.before.before.bound.given.1
-    (not-false _ c.before.before.before.before.before.before.before.before.before.before.before.if1.false)
-    (not-false _ c.before.before.before.before.before.before.before.before.before.before.if2.false)
+    c.scan_at.ensures
+    c.in-Past.is
+    (not-false _ c.if-not-bound.false-raw)
+    (not-false _ c.if-not-named.false-raw)
     (tells _ _ _ _ _
-    c.before.before.before.before.before.before.before.before.before.before.before.before.before.before.before.scan-at.ensures
-    c.before.before.before.before.before.before.before.before.before.before.before.before.before.bound.given.1 steady
-    c.before.before.before.before.before.before.before.before.before.steady-at.ensures
-    c.before.before.before.before.before.before.before.steady.given.1
-    ∙ not-false _ c.before.before.before.before.before.if3.false)
+    c.scan_at.ensures
+    c.in-Past.is steady
+    c.steady_at.ensures
+    c.in-Past-steady_at.is
+    ∙ not-false _ c.if-not-steady.false-raw)
     (tells _ _ _ _ _
-    c.before.before.before.before.before.before.before.before.before.before.before.before.before.before.before.scan-at.ensures
-    c.before.before.before.before.before.before.before.before.before.before.before.before.before.bound.given.1 _
-    c.before.before.before.before.filled_at.ensures c.before.before.full.given.1 ∙ not-false _ c.if4.false)))
+    c.scan_at.ensures
+    c.in-Past.is _
+    c.filled_at.ensures c.in-Past-filled_at.is ∙ not-false _ c.if-not-full.false-raw)))

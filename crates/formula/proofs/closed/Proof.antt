@@ -7,11 +7,11 @@ pub closed_spec : {M : Type 1} → statement M
 closed_spec =
     tie.close
     (tie.spec
-    (λ c. c.match.keys1)
-    (λ c. c.match.keys2)
-    (λ c. rw c.enum_told.given.1)
-    (λ c κs. c.before.before.before.requires)
-    (λ c κs. c.before.before.before.before.before.requires)
-    (λ c. closed-free _ _ c.before.before.before.before.body.given.1 c.before.before.has.ensures c.before.if1.true
+    (λ c. c.in-Past-1.keys1)
+    (λ c. c.in_default-1.keys2)
+    (λ c. rw c.in_default.is)
+    (λ c κs. c.requires)
+    (λ c κs. c.requires)
+    (λ c. closed-free _ _ c.in-Past.is c.has.ensures c.if-has.true
     c.single.ensures)
-    (λ c. closed_vacuous _ _ c.before.before.before.body.given.1 c.before.has.ensures c.if1.false))
+    (λ c. closed_vacuous _ _ c.in-Past.is c.has.ensures c.if-has.false))

@@ -12,10 +12,10 @@ grammar_in_spec =
     tie.close
     (tie.spec
     (λ c κs. tt)
-    (λ c. let p = framed-parts c.before.before.before.before.args.bytes.now
-    (sym c.before.before.is_framed.ensures ∙ c.before.if1.true) in omega arith)
+    (λ c. let p = framed-parts c.args.bytes.now
+    (sym c.is_framed.ensures ∙ c.if-is_framed.true) in omega arith)
     (λ c κs. tt)
-    (λ c. let h : framed c.before.before.before.before.before.args.bytes.now
-    ≡ true = sym c.before.before.before.is_framed.ensures ∙ c.before.before.if1.true in rw h c.grammar-of.ensures)
-    (λ c. let h : framed c.before.before.before.args.bytes.now ≡ false = sym c.before.is_framed.ensures ∙ c.if1.false in
+    (λ c. let h : framed c.args.bytes.now
+    ≡ true = sym c.is_framed.ensures ∙ c.if-is_framed.true in rw h c.grammar_of.ensures)
+    (λ c. let h : framed c.args.bytes.now ≡ false = sym c.is_framed.ensures ∙ c.if-is_framed.false in
     rw h))

@@ -5,4 +5,4 @@ use Rattle.formula.proofs.joined.Tie as tie
 pub joined_spec : {M : Type 1} → statement M
 joined_spec =
     tie.close
-    (tie.spec (λ c. c.match.keys1) (λ c. c.match.keys2) (λ c. rw c.enum_told.given.1) (λ c. rw c.before.second.given.1))
+    (tie.spec (λ c. c.in-Past-1.keys1) (λ c. c.in_default-1.keys2) (λ c. rw c.in_default.is) (λ c. rw c.in-Past.is))

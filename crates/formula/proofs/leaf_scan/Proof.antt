@@ -10,18 +10,18 @@ unfolding bound mentioned lacks mask
 leaf_scan_spec =
     tie.close
     (tie.spec
-    (λ c. c.match.keys1)
-    (λ c κs. c.before.before.before.requires _ c.before.l.given.1)
-    (λ c κs. c.before.before.before.before.requires _ c.before.before.l.given.1)
-    (λ c. c.match.keys2)
-    (λ c. c.match.keys3)
-    (λ c. c.match.keys4)
-    (λ c. c.match.keys5)
-    (λ c. c.match.keys6)
-    (λ c. scan_leaf _ _ c.before.before.before.before.before.requires c.before.before.before.l.given.1 c.before.has.ensures
+    (λ c. c.in-Var-1.keys1)
+    (λ c κs. c.requires _ c.in-Var.is)
+    (λ c κs. c.requires _ c.in-Var.is)
+    (λ c. c.in-False-1.keys2)
+    (λ c. c.in-True-1.keys3)
+    (λ c. c.in-Now-1.keys4)
+    (λ c. c.in-Next-1.keys5)
+    (λ c. c.in-Reg-1.keys6)
+    (λ c. scan_leaf _ _ c.requires c.in-Var.is c.has.ensures
     c.single.ensures)
-    (λ c. rw c.enum_told.given.1)
-    (λ c. rw c.enum-told2.given.1)
-    (λ c. rw c.enum-told3.given.1)
-    (λ c. rw c.enum-told4.given.1)
-    (λ c. rw c.enum-told5.given.1))
+    (λ c. rw c.in-False.is)
+    (λ c. rw c.in-True.is)
+    (λ c. rw c.in-Now.is)
+    (λ c. rw c.in-Next.is)
+    (λ c. rw c.in-Reg.is))

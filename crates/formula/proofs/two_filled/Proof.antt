@@ -11,4 +11,4 @@ two_filled_spec =
     (λ c. search rules)
     (λ c κs. search rules)
     (λ c. search rules)
-    (λ c. rw c.before.before.w.given.1 c.relation-filled.ensures))
+    (λ c. rw c.in-Until.is c.relation_filled.ensures))

@@ -10,27 +10,27 @@ pub relation_unchecked_spec : {M : Type 1} → statement M
 relation_unchecked_spec =
     tie.close
     (tie.spec
-    (λ c. relation-range _ c.before.before.before.requires _ _ c.if1.true)
-    (λ c κs. let z = c.before.before.before.before.requires.good.sizes in omega arith)
+    (λ c. relation-range _ c.requires _ _ c.if-t-ge-RELATIONS.true)
+    (λ c κs. let z = c.requires.good.sizes in omega arith)
     (λ c κs. search rules)
     (λ c. search rules)
     (λ c. search rules)
     (λ c κs.
     record {
       sound =
-          c.before.before.before.before.before.before.before.before.before.before.requires;
+          c.requires;
       range =
-          c.before.before.before.before.before.before.before.if1.false;
+          c.if-t-ge-RELATIONS.false;
       passed =
-          checks-told _ c.before.before.before.before.before.before.before.before.before.before.requires Relation _
-          c.before.before.before.before.before.header-word.ensures c.before.before.before.check-formula.ensures
-          c.before.enum_told.given.1;
+          checks-told _ c.requires Relation _
+          c.header_word-n.ensures c.check_formula.ensures
+          c.in-Fit.is;
     })
     (λ c. search rules)
-    (λ c. relation-checked _ c.before.before.before.before.before.before.before.before.before.before.requires _ _
-    c.before.x.given.0.0 c.before.before.before.before.before.before.before.if1.false
-    (checks-told _ c.before.before.before.before.before.before.before.before.before.before.requires Relation _
-    c.before.before.before.before.before.header-word.ensures c.before.before.before.check-formula.ensures
-    c.before.x.given.1))
+    (λ c. relation-checked _ c.requires _ _
+    c.in-Refused.x c.if-t-ge-RELATIONS.false
+    (checks-told _ c.requires Relation _
+    c.header_word-n.ensures c.check_formula.ensures
+    c.in-Refused.is))
     (λ c. search rules)
     (λ c. search rules))

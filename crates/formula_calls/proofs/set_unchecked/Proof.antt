@@ -10,35 +10,35 @@ pub set_unchecked_spec : {M : Type 1} → statement M
 set_unchecked_spec =
     tie.close
     (tie.spec
-    (λ c. set-range _ c.before.before.before.requires _ _ _ _ c.if1.true)
+    (λ c. set-range _ c.requires _ _ _ _ c.if-r-ge-REGISTERS.true)
     (λ c κs. search rules)
-    (λ c. set_unnamed_lem _ c.before.before.before.before.before.requires _ _ _ _ c.before.before.if1.false
-    (test_fails c.if2.true c.before.is-named.ensures))
-    (λ c κs. let z = c.before.before.before.before.before.before.requires.good.sizes in omega arith)
+    (λ c. set_unnamed_lem _ c.requires _ _ _ _ c.if-r-ge-REGISTERS.false
+    (test_fails c.if-not-is_named.true-raw c.is_named.ensures))
+    (λ c κs. let z = c.requires.good.sizes in omega arith)
     (λ c κs. search rules)
     (λ c. search rules)
     (λ c. search rules)
     (λ c κs.
     record {
       sound =
-          c.before.before.before.before.before.before.before.before.before.before.before.before.requires;
+          c.requires;
       range =
-          c.before.before.before.before.before.before.before.before.before.if1.false;
+          c.if-r-ge-REGISTERS.false;
       listed =
-          test_named c.before.before.before.before.before.before.before.if2.false
-          c.before.before.before.before.before.before.before.before.is-named.ensures;
+          test_named c.if-not-is_named.false-raw
+          c.is_named.ensures;
       passed =
-          checks-told _ c.before.before.before.before.before.before.before.before.before.before.before.before.requires Set _
-          c.before.before.before.before.before.header-word.ensures c.before.before.before.check-formula.ensures
-          c.before.enum_told.given.1;
+          checks-told _ c.requires Set _
+          c.header_word-n.ensures c.check_formula.ensures
+          c.in-Fit.is;
     })
     (λ c. search rules)
-    (λ c. set-checked _ c.before.before.before.before.before.before.before.before.before.before.before.before.requires _ _ _ _
-    c.before.x.given.0.0 c.before.before.before.before.before.before.before.before.before.if1.false
-    (test_named c.before.before.before.before.before.before.before.if2.false
-    c.before.before.before.before.before.before.before.before.is-named.ensures)
-    (checks-told _ c.before.before.before.before.before.before.before.before.before.before.before.before.requires Set _
-    c.before.before.before.before.before.header-word.ensures c.before.before.before.check-formula.ensures
-    c.before.x.given.1))
+    (λ c. set-checked _ c.requires _ _ _ _
+    c.in-Refused.x c.if-r-ge-REGISTERS.false
+    (test_named c.if-not-is_named.false-raw
+    c.is_named.ensures)
+    (checks-told _ c.requires Set _
+    c.header_word-n.ensures c.check_formula.ensures
+    c.in-Refused.is))
     (λ c. search rules)
     (λ c. search rules))

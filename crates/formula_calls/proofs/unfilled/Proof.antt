@@ -10,10 +10,10 @@ use Rattle.formula_calls.proofs.Vacant.{vacant-start, vacant-more}
 use Rattle.formula_calls.proofs.unfilled.Statement.{statement}
 use Rattle.formula_calls.proofs.unfilled.Tie as tie
 
-abbrev invariant_loop : tie.invariant_loop
+abbrev invariant_loop : tie.invariant-loop-k
 invariant_loop words k₀ k = (FIRST_REGISTER ≤ k) × VacantTo words k
 
-abbrev decreases_loop : tie.decreases_loop
+abbrev decreases_loop : tie.decreases-loop-k
 decreases_loop words k₀ k = ROOTS_END - k
 
 pub unfilled_spec : {M : Type 1} → statement M
@@ -23,15 +23,15 @@ unfilled_spec =
     invariant_loop
     decreases_loop
     (λ c. (omega arith, vacant-start _))
-    (λ c κs. let t = c.loop-test.true in let w = c.before.before.before.requires in (omega arith, w))
+    (λ c κs. let t = c.loop-k-test.true in let w = c.requires in (omega arith, w))
     (λ c. fails
-    (λ v. c.if1.true
-    (c.before.header-word.ensures ∙ v _ c.before.before.before.loop.invariant.0 c.before.before.loop-test.true)))
-    (λ c. let t = c.before.before.loop-test.true in omega arith)
-    (λ c. let t = c.before.before.loop-test.true in omega arith)
+    (λ v. c.if-header_word-ne0.true
+    (c.header_word.ensures ∙ v _ c.loop-k.invariant.0 c.loop-k-test.true)))
+    (λ c. let t = c.loop-k-test.true in omega arith)
+    (λ c. let t = c.loop-k-test.true in omega arith)
     (λ c. (
-      let t = c.before.before.before.loop.invariant.0 in
+      let t = c.loop-k.invariant.0 in
           omega arith,
-      vacant-more _ c.before.before.before.loop.invariant.1 c.before.header-word.ensures c.if1.false,
+      vacant-more _ c.loop-k.invariant.1 c.header_word.ensures c.if-header_word-ne0.false,
     ))
-    (λ c. holds (λ h lo hi. let t = c.loop-test.false in c.before.loop.invariant.1 h lo (omega arith))))
+    (λ c. holds (λ h lo hi. let t = c.loop-k-test.false in c.loop-k.invariant.1 h lo (omega arith))))

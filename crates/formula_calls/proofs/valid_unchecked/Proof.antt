@@ -12,33 +12,33 @@ pub valid_unchecked_spec : {M : Type 1} → statement M
 valid_unchecked_spec =
     tie.close
     (tie.spec
-    (λ c κs. let z = c.before.before.before.requires.good.sizes in omega arith)
+    (λ c κs. let z = c.requires.good.sizes in omega arith)
     (λ c. search rules)
-    (λ c. valid-filled _ c.before.before.before.before.before.requires _ (says_fail c.if1.true c.before.unfilled.ensures))
-    (λ c κs. let z = c.before.before.before.before.before.before.requires.good.sizes in omega arith)
+    (λ c. valid-filled _ c.requires _ (says_fail c.if-not-unfilled.true-raw c.unfilled.ensures))
+    (λ c κs. let z = c.requires.good.sizes in omega arith)
     (λ c κs. search rules)
     (λ c. search rules)
     (λ c. search rules)
     (λ c κs.
     record {
       sound =
-          c.before.before.before.before.before.before.before.before.before.before.before.before.requires;
+          c.requires;
       free =
-          vacant-book _ c.before.before.before.before.before.before.before.before.before.before.before.before.requires
-          (says_pass c.before.before.before.before.before.before.before.if1.false
-          c.before.before.before.before.before.before.before.before.unfilled.ensures);
+          vacant-book _ c.requires
+          (says_pass c.if-not-unfilled.false-raw
+          c.unfilled.ensures);
       passed =
-          checks-told _ c.before.before.before.before.before.before.before.before.before.before.before.before.requires Valid _
-          c.before.before.before.before.before.header-word.ensures c.before.before.before.check-formula.ensures
-          c.before.enum_told.given.1;
+          checks-told _ c.requires Valid _
+          c.header_word-n.ensures c.check_formula.ensures
+          c.in-Fit.is;
     })
     (λ c. search rules)
-    (λ c. valid-checked _ c.before.before.before.before.before.before.before.before.before.before.before.before.requires _
-    c.before.x.given.0.0
-    (says_pass c.before.before.before.before.before.before.before.if1.false
-    c.before.before.before.before.before.before.before.before.unfilled.ensures)
-    (checks-told _ c.before.before.before.before.before.before.before.before.before.before.before.before.requires Valid _
-    c.before.before.before.before.before.header-word.ensures c.before.before.before.check-formula.ensures
-    c.before.x.given.1))
+    (λ c. valid-checked _ c.requires _
+    c.in-Refused.x
+    (says_pass c.if-not-unfilled.false-raw
+    c.unfilled.ensures)
+    (checks-told _ c.requires Valid _
+    c.header_word-n.ensures c.check_formula.ensures
+    c.in-Refused.is))
     (λ c. search rules)
     (λ c. search rules))

@@ -16,23 +16,23 @@ header-word-requires-3 c κs = search rules
 evaluate-relation-requires : tie.Need-evaluate-relation-requires
 evaluate-relation-requires c κs =
     relation-asks c.before.before.before.before.before.before.before.before.before.requires
-    c.before.before.before.before.before.header-word.ensures c.before.before.before.header-word2.ensures
+    c.before.before.before.before.before.header_word-total.ensures c.before.before.before.header_word.ensures
 
 store-relation-requires : tie.Need-store-relation-requires
 store-relation-requires c κs =
     relation_storing c.before.before.before.before.before.before.before.before.before.before.before.before.before.requires
-    c.before.before.before.before.before.before.before.before.before.header-word.ensures
-    c.before.before.before.before.before.before.before.header-word2.ensures _
-    c.before.before.before.evaluate-relation.ensures
+    c.before.before.before.before.before.before.before.before.before.header_word-total.ensures
+    c.before.before.before.before.before.before.before.header_word.ensures _
+    c.before.before.before.evaluate_relation-done.ensures
 
 tidy-requires : tie.Need-tidy-requires
 tidy-requires c κs =
     relation_tidying
     c.before.before.before.before.before.before.before.before.before.before.before.before.before.before.before.before.before.requires
-    c.before.before.before.before.before.before.before.before.before.before.before.before.before.header-word.ensures
-    c.before.before.before.before.before.before.before.before.before.before.before.header-word2.ensures _
-    c.before.before.before.before.before.before.before.evaluate-relation.ensures _
-    c.before.before.before.store-relation.ensures.1
+    c.before.before.before.before.before.before.before.before.before.before.before.before.before.header_word-total.ensures
+    c.before.before.before.before.before.before.before.before.before.before.before.header_word.ensures _
+    c.before.before.before.before.before.before.before.evaluate_relation-done.ensures _
+    c.before.before.before.store_relation-answer.ensures.1
 
 same_length : tie.Need-same-length
 same_length c = search rules
@@ -41,10 +41,10 @@ returns : tie.Need-returns
 returns c =
     relation_done
     c.before.before.before.before.before.before.before.before.before.before.before.before.before.before.before.before.before.before.before.before.requires
-    c.before.before.before.before.before.before.before.before.before.before.before.before.before.before.before.before.header-word.ensures
-    c.before.before.before.before.before.before.before.before.before.before.before.before.before.before.header-word2.ensures _ c.before.before.before.before.before.before.before.before.before.before.evaluate-relation.ensures _
-    c.before.before.before.before.before.before.store-relation.ensures.1
-    c.before.before.before.before.before.before.store-relation.ensures.0 _ c.before.before.tidy.ensures
+    c.before.before.before.before.before.before.before.before.before.before.before.before.before.before.before.before.header_word-total.ensures
+    c.before.before.before.before.before.before.before.before.before.before.before.before.before.before.header_word.ensures _ c.before.before.before.before.before.before.before.before.before.before.evaluate_relation-done.ensures _
+    c.before.before.before.before.before.before.store_relation-answer.ensures.1
+    c.before.before.before.before.before.before.store_relation-answer.ensures.0 _ c.before.before.tidy.ensures
 
 pub relation_steps_spec : {M : Type 1} → statement M
 relation_steps_spec =

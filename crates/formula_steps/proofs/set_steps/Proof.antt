@@ -13,31 +13,31 @@ set_steps_spec =
     (λ c κs. search rules)
     (λ c κs. search rules)
     (λ c κs. search rules)
-    (λ c κs. set-asks c.before.before.before.before.before.before.before.before.before.before.before.requires
-    c.before.before.before.before.before.before.before.header-word.ensures
-    c.before.before.before.before.before.before.before.before.before.before.before.args.most
-    c.before.before.before.before.rows_Under.ensures c.before.before.before.rounds-under.ensures
-    c.before.before.before.before.before.header-word2.ensures)
+    (λ c κs. set-asks c.requires
+    c.header_word-rows.ensures
+    c.args.most
+    c.before.before.before.before.rows_Under.ensures c.rounds_under.ensures
+    c.header_word.ensures)
     (λ c κs. set_storing
-    c.before.before.before.before.before.before.before.before.before.before.before.before.before.before.before.requires
-    c.before.before.before.before.before.before.before.before.before.before.before.header-word.ensures
-    c.before.before.before.before.before.before.before.before.before.before.before.before.before.before.before.args.most c.before.before.before.before.before.before.before.before.rows_Under.ensures
-    c.before.before.before.before.before.before.before.rounds-under.ensures _
-    c.before.before.before.evaluate-set.ensures)
+    c.requires
+    c.header_word-rows.ensures
+    c.args.most c.before.before.before.before.before.before.before.before.rows_Under.ensures
+    c.rounds_under.ensures _
+    c.evaluate_set-done.ensures)
     (λ c κs. set_tidying
-    c.before.before.before.before.before.before.before.before.before.before.before.before.before.before.before.before.before.before.before.requires
-    c.before.before.before.before.before.before.before.before.before.before.before.before.before.before.before.header-word.ensures
-    c.before.before.before.before.before.before.before.before.before.before.before.before.before.before.before.before.before.before.before.args.most
+    c.requires
+    c.header_word-rows.ensures
+    c.args.most
     c.before.before.before.before.before.before.before.before.before.before.before.before.rows_Under.ensures
-    c.before.before.before.before.before.before.before.before.before.before.before.rounds-under.ensures _
-    c.before.before.before.before.before.before.before.evaluate-set.ensures _
-    c.before.before.before.store-set.ensures.1)
+    c.rounds_under.ensures _
+    c.evaluate_set-done.ensures _
+    c.store_set-answer.ensures.1)
     (λ c. search rules)
     (λ c. set_done
-    c.before.before.before.before.before.before.before.before.before.before.before.before.before.before.before.before.before.before.before.before.before.before.requires
-    c.before.before.before.before.before.before.before.before.before.before.before.before.before.before.before.before.before.before.header-word.ensures
-    c.before.before.before.before.before.before.before.before.before.before.before.before.before.before.before.before.before.before.before.before.before.before.args.most
+    c.requires
+    c.header_word-rows.ensures
+    c.args.most
     c.before.before.before.before.before.before.before.before.before.before.before.before.before.before.before.rows_Under.ensures
-    c.before.before.before.before.before.before.before.before.before.before.before.before.before.before.rounds-under.ensures _ c.before.before.before.before.before.before.before.before.before.before.evaluate-set.ensures _
-    c.before.before.before.before.before.before.store-set.ensures.1
-    c.before.before.before.before.before.before.store-set.ensures.0 _ c.before.before.tidy.ensures))
+    c.rounds_under.ensures _ c.evaluate_set-done.ensures _
+    c.store_set-answer.ensures.1
+    c.store_set-answer.ensures.0 _ c.tidy.ensures))

@@ -20,7 +20,7 @@ add_at c = search rules
 -- src/lib.rt:95:41
 add-put_header : tie.Need-overflow-add-put-header
 add-put_header c =
-    let h = carries_fits c.before.before.done.given.1 c.before.before.before.before.before.requires.2 in omega arith
+    let h = carries_fits c.before.before.in-At-2.given.1 c.before.before.before.before.before.requires.2 in omega arith
 
 -- src/lib.rt:95:13
 put-header-requires : tie.Need-put-header-requires
@@ -28,7 +28,7 @@ put-header-requires c κs = search rules
 
 -- src/lib.rt:87:1
 returns : tie.Need-returns
-returns c = loaded_full _ _ c.enum_told.given.1
+returns c = loaded_full _ _ c.enum_told-1.given.1
 
 -- src/lib.rt:87:1
 same_length : tie.Need-same-length
@@ -36,7 +36,7 @@ same_length c = search rules
 
 -- src/lib.rt:87:1
 returns-2 : tie.Need-returns-2
-returns-2 c = loaded_value _ _ c.before.before.before.before.before.done.given.1 c.before.before.put_header_lem.ensures
+returns-2 c = loaded_value _ _ c.before.before.before.before.before.in-At-2.given.1 c.before.before.put_header.ensures
 
 pub store_relation_spec : {M : Type 1} → statement M
 store_relation_spec =

@@ -13,19 +13,19 @@ enum_known_done c = search rules
 
 add-put_header : tie.Need-overflow-add-put-header
 add-put_header c =
-    let h = carries_fits c.before.before.done.given.1 c.before.before.before.before.before.requires.1 in omega arith
+    let h = carries_fits c.before.before.in-At-2.given.1 c.before.before.before.before.before.requires.1 in omega arith
 
 put-header-requires : tie.Need-put-header-requires
 put-header-requires c κs = search rules
 
 returns : tie.Need-returns
-returns c = confined-full _ c.enum_told.given.1
+returns c = confined-full _ c.enum_told-1.given.1
 
 same_length : tie.Need-same-length
 same_length c = search rules
 
 returns-2 : tie.Need-returns-2
-returns-2 c = confined-value _ c.before.before.before.before.before.done.given.1 c.before.before.put_header_lem.ensures
+returns-2 c = confined-value _ c.before.before.before.before.before.in-At-2.given.1 c.before.before.put_header.ensures
 
 pub store_valid_spec : {M : Type 1} → statement M
 store_valid_spec =

@@ -10,4 +10,4 @@ pub tidy_spec : {M : Type 1} → statement M
 tidy_spec =
     tie.close
     (tie.spec (λ c κs. search rules) (λ c. search rules) (λ c. as_it_was refl) (λ c κs. search rules) (λ c. search rules)
-    (λ c. tidied_by c.before.before.free-many.ensures))
+    (λ c. tidied_by c.free_many.ensures))

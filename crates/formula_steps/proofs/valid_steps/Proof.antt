@@ -16,23 +16,23 @@ header-word-requires-3 c κs = search rules
 evaluate-pairs-requires : tie.Need-evaluate-pairs-requires
 evaluate-pairs-requires c κs =
     valid-asks c.before.before.before.before.before.before.before.before.before.requires
-    c.before.before.before.before.before.header-word.ensures c.before.before.before.header-word2.ensures
+    c.before.before.before.before.before.header_word-total.ensures c.before.before.before.header_word.ensures
 
 store-valid-requires : tie.Need-store-valid-requires
 store-valid-requires c κs =
     valid_storing c.before.before.before.before.before.before.before.before.before.before.before.before.before.requires
-    c.before.before.before.before.before.before.before.before.before.header-word.ensures
-    c.before.before.before.before.before.before.before.header-word2.ensures _
-    c.before.before.before.evaluate-pairs.ensures
+    c.before.before.before.before.before.before.before.before.before.header_word-total.ensures
+    c.before.before.before.before.before.before.before.header_word.ensures _
+    c.before.before.before.evaluate_pairs-done.ensures
 
 tidy-requires : tie.Need-tidy-requires
 tidy-requires c κs =
     valid_tidying
     c.before.before.before.before.before.before.before.before.before.before.before.before.before.before.before.before.before.requires
-    c.before.before.before.before.before.before.before.before.before.before.before.before.before.header-word.ensures
-    c.before.before.before.before.before.before.before.before.before.before.before.header-word2.ensures _
-    c.before.before.before.before.before.before.before.evaluate-pairs.ensures _
-    c.before.before.before.store-valid.ensures.1
+    c.before.before.before.before.before.before.before.before.before.before.before.before.before.header_word-total.ensures
+    c.before.before.before.before.before.before.before.before.before.before.before.header_word.ensures _
+    c.before.before.before.before.before.before.before.evaluate_pairs-done.ensures _
+    c.before.before.before.store_valid-answer.ensures.1
 
 same_length : tie.Need-same-length
 same_length c = search rules
@@ -41,10 +41,10 @@ returns : tie.Need-returns
 returns c =
     valid_done
     c.before.before.before.before.before.before.before.before.before.before.before.before.before.before.before.before.before.before.before.before.requires
-    c.before.before.before.before.before.before.before.before.before.before.before.before.before.before.before.before.header-word.ensures
-    c.before.before.before.before.before.before.before.before.before.before.before.before.before.before.header-word2.ensures _ c.before.before.before.before.before.before.before.before.before.before.evaluate-pairs.ensures _
-    c.before.before.before.before.before.before.store-valid.ensures.1
-    c.before.before.before.before.before.before.store-valid.ensures.0 _ c.before.before.tidy.ensures
+    c.before.before.before.before.before.before.before.before.before.before.before.before.before.before.before.before.header_word-total.ensures
+    c.before.before.before.before.before.before.before.before.before.before.before.before.before.before.header_word.ensures _ c.before.before.before.before.before.before.before.before.before.before.evaluate_pairs-done.ensures _
+    c.before.before.before.before.before.before.store_valid-answer.ensures.1
+    c.before.before.before.before.before.before.store_valid-answer.ensures.0 _ c.before.before.tidy.ensures
 
 pub valid_steps_spec : {M : Type 1} → statement M
 valid_steps_spec =

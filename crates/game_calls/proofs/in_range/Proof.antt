@@ -9,8 +9,8 @@ pub in-range-spec : {M : Type 1} → statement M
 in-range-spec =
     tie.close
     (tie.spec
-    (λ c. range-goal c.before.args.goal c.before.args.guest c.before.args.machine c.if1.true)
-    (λ c. range-guest c.before.before.args.goal c.before.before.args.guest c.before.before.args.machine c.if2.true)
-    (λ c. let c3 = c.before.before.before in range-machine c3.args.goal c3.args.guest c3.args.machine c.if3.true)
+    (λ c. range-goal c.args.goal c.args.guest c.args.machine c.if-goal-ge-REGISTERS.true)
+    (λ c. range-guest c.args.goal c.args.guest c.args.machine c.if-guest-ge-RELATIONS.true)
+    (λ c. let c3 = c.before.before.before in range-machine c3.args.goal c3.args.guest c3.args.machine c.if-machine-ge-RELATIONS.true)
     (λ c. let c1 = c.before in let c2 = c1.before in let c3 = c2.before in range-yes c3.args.goal c3.args.guest
-    c3.args.machine c2.if1.false c1.if2.false c.if3.false))
+    c3.args.machine c2.if-goal-ge-REGISTERS.false c1.if-guest-ge-RELATIONS.false c.if-machine-ge-RELATIONS.false))

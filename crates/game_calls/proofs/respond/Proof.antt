@@ -16,8 +16,8 @@ respond_spec =
     (λ c. search rules)
     (λ c. search rules)
     (λ c. let c2 = c.before.before in let c4 = c2.before.before in response_state c4.args.bits
-    c2.iterated.given.0.0 c2.iterated.given.1 (power_fits c4.args.bits c4.requires) c.if1.true)
-    (λ c. response_full c.before.before.args.bits c.enum_told.given.1)
-    (λ c. response_spent c.before.before.args.bits c.enum-told2.given.1)
+    c2.in-Made-2.given.0.0 c2.in-Made-2.given.1 (power_fits c4.args.bits c4.requires) c.if-u-bits.true)
+    (λ c. response_full c.args.bits c.in-Full.is)
+    (λ c. response_spent c.args.bits c.in-Spent.is)
     (λ c. let c2 = c.before.before in let c4 = c2.before.before in response_none c4.args.bits
-    c2.iterated.given.0.0 c2.iterated.given.1 (power_fits c4.args.bits c4.requires) c.if1.false))
+    c2.in-Made-2.given.0.0 c2.in-Made-2.given.1 (power_fits c4.args.bits c4.requires) c.if-u-bits.false))

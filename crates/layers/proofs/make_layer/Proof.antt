@@ -15,13 +15,13 @@ use Rattle.layers.proofs.make_layer.Tie as tie
 use Rattle.layers.proofs.make_layer.Reads as reads
 use Rattle.layers.proofs.make_layer.Lts as lts
 
-abbrev invariant_loop : tie.invariant_loop
+abbrev invariant_loop : tie.invariant-loop-i
 invariant_loop words₀ counts₀ limits relation b j x₀ i₀ words counts x i =
     (length words ≡ length words₀) × (length counts ≡ length counts₀) × (i ≤ j) × CountsOf (view limits.rows words) counts
     × ((S : Scene limits.bits (view limits.rows words₀) relation b)
     → Layered limits.bits (view limits.rows words₀) (view limits.rows words) relation b S i x)
 
-abbrev decreases_loop : tie.decreases_loop
+abbrev decreases_loop : tie.decreases-loop-i
 decreases_loop words₀ counts₀ limits relation b j x₀ i₀ words counts x i = j - i
 
 pub make_layer_spec : {M : Type 1} → statement M
@@ -30,40 +30,40 @@ make_layer_spec =
     (tie.spec
     invariant_loop
     decreases_loop
-    (λ c. (refl, refl, omega arith, c.before.before.requires.1, λ S. layered_start c.before.before.requires.0.start S))
+    (λ c. (refl, refl, omega arith, c.requires.1, λ S. layered_start c.requires.0.start S))
     (λ c κs. (
-      next-asks c.before.before.before.before.before.before.requires.0.start
-          (c.before.before.before.loop.invariant.4 c.before.before.before.before.before.before.requires.0.scene),
-      c.before.before.before.loop.invariant.3,
+      next-asks c.requires.0.start
+          (c.loop-i.invariant.4 c.requires.0.scene),
+      c.loop-i.invariant.3,
     ))
     (λ c. search rules)
     (λ c. search rules)
-    (λ c. c.before.before.before.before.before.before.next-layer.auto.0
-    ∙ c.before.before.before.before.before.before.before.before.before.before.loop.invariant.0)
-    (λ c. c.before.before.before.before.before.before.next-layer.auto.1.0
-    ∙ c.before.before.before.before.before.before.before.before.before.before.loop.invariant.1)
+    (λ c. c.next_layer.auto.words
+    ∙ c.loop-i.invariant.0)
+    (λ c. c.next_layer.auto.counts
+    ∙ c.loop-i.invariant.1)
     (λ c. absurd
-    (again_never c.before.before.before.before.before.before.before.before.before.before.before.before.before.requires.0
-    c.before.before.before.before.before.before.before.before.before.before.loop.invariant.4
-    c.before.before.before.before.before.before.next-layer.ensures.0
-    c.before.before.before.before.before.before.before.before.before.loop-test.true c.enum_told.given.1))
-    (λ c. omega (arith, c.before.before.before.before.before.before.before.before.before.before.loop-test.true))
-    (λ c. omega (arith, c.before.before.before.before.before.before.before.before.before.before.loop-test.true))
+    (again_never c.requires.0
+    c.loop-i.invariant.4
+    c.next_layer.ensures.0
+    c.loop-i-test.true c.in_default.is))
+    (λ c. omega (arith, c.loop-i-test.true))
+    (λ c. omega (arith, c.loop-i-test.true))
     (λ c. (
-      c.before.before.before.before.before.before.before.next-layer.auto.0
-          ∙ c.before.before.before.before.before.before.before.before.before.before.before.loop.invariant.0,
-      c.before.before.before.before.before.before.before.next-layer.auto.1.0
-          ∙ c.before.before.before.before.before.before.before.before.before.before.before.loop.invariant.1,
-      omega (arith, c.before.before.before.before.before.before.before.before.before.before.loop-test.true),
-      c.before.before.before.before.before.before.before.next-layer.ensures.1,
+      c.next_layer.auto.words
+          ∙ c.loop-i.invariant.0,
+      c.next_layer.auto.counts
+          ∙ c.loop-i.invariant.1,
+      omega (arith, c.loop-i-test.true),
+      c.next_layer.ensures.1,
       again_turns
-          c.before.before.before.before.before.before.before.before.before.before.before.before.before.before.requires.0
-          c.before.before.before.before.before.before.before.before.before.before.before.loop.invariant.4
-          c.before.before.before.before.before.before.before.next-layer.ensures.0 c.before.y.given.1,
+          c.requires.0
+          c.loop-i.invariant.4
+          c.next_layer.ensures.0 c.in-At.is,
     ))
-    (λ c. c.before.loop.invariant.0)
-    (λ c. c.before.loop.invariant.1)
+    (λ c. c.loop-i.invariant.0)
+    (λ c. c.loop-i.invariant.1)
     (λ c. (
-      again_ends c.before.before.before.before.requires.0 c.before.loop.invariant.4 c.before.loop.invariant.2 c.loop-test.false,
-      c.before.loop.invariant.3,
+      again_ends c.requires.0 c.loop-i.invariant.4 c.loop-i.invariant.2 c.loop-i-test.false,
+      c.loop-i.invariant.3,
     )))

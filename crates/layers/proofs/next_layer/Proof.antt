@@ -15,40 +15,40 @@ pub next_layer_spec : {M : Type 1} → statement M
 next_layer_spec =
     tie.close
     (tie.spec
-    (λ c. omega (arith, base-bits c.before.before.before.requires.0.base))
+    (λ c. omega (arith, base-bits c.requires.0.base))
     (λ c. search rules)
     (λ c κs.
-    (dia_asks c.before.before.before.before.before.before.requires.0, c.before.before.before.before.before.before.requires.1))
+    (dia_asks c.requires.0, c.requires.1))
     (λ c. search rules)
     (λ c. search rules)
-    (λ c. c.before.before.before.before.before.before.diamond.auto.0)
-    (λ c. c.before.before.before.before.before.before.diamond.auto.1.0)
+    (λ c. c.diamond.auto.words)
+    (λ c. c.diamond.auto.counts)
     (λ c. (
-      next-full c.before.before.before.before.before.before.before.before.before.before.before.before.before.requires.0
-          c.before.before.before.before.before.before.diamond.ensures.0 c.enum_told.given.1,
-      c.before.before.before.before.before.before.diamond.ensures.1,
+      next-full c.requires.0
+          c.diamond.ensures.0 c.in_default.is,
+      c.diamond.ensures.1,
     ))
     (λ c. search rules)
     (λ c κs. (
       or-asks
-          c.before.before.before.before.before.before.before.before.before.before.before.before.before.before.before.before.before.requires.0 c.before.before.before.before.before.before.before.before.before.before.diamond.ensures.0
-          c.before.before.before.before.d.given.1,
-      c.before.before.before.before.before.before.before.before.before.before.diamond.ensures.1,
+          c.requires.0 c.diamond.ensures.0
+          c.in-At.is,
+      c.diamond.ensures.1,
     ))
-    (λ c. c.before.before.before.before.take.auto.0
-    ∙ c.before.before.before.before.before.before.before.before.before.before.before.before.before.before.before.diamond.auto.0)
-    (λ c. c.before.before.before.before.take.auto.1.0
-    ∙ c.before.before.before.before.before.before.before.before.before.before.before.before.before.before.before.diamond.auto.1.0)
+    (λ c. c.take.auto.words
+    ∙ c.diamond.auto.words)
+    (λ c. c.take.auto.counts
+    ∙ c.diamond.auto.counts)
     (λ c. (
       next-ends
-          c.before.before.before.before.before.before.before.before.before.before.before.before.before.before.before.before.before.before.before.before.before.before.requires.0
-          c.before.before.before.before.before.before.before.before.before.before.before.before.before.before.before.diamond.ensures.0 c.before.before.before.before.before.before.before.before.before.d.given.1
+          c.requires.0
+          c.diamond.ensures.0 c.in-At.is
           (took (or-base
-          c.before.before.before.before.before.before.before.before.before.before.before.before.before.before.before.before.before.before.before.before.before.before.requires.0
-          c.before.before.before.before.before.before.before.before.before.before.before.before.before.before.before.diamond.ensures.0 c.before.before.before.before.before.before.before.before.before.d.given.1)
+          c.requires.0
+          c.diamond.ensures.0 c.in-At.is)
           (or-asks
-          c.before.before.before.before.before.before.before.before.before.before.before.before.before.before.before.before.before.before.before.before.before.before.requires.0
-          c.before.before.before.before.before.before.before.before.before.before.before.before.before.before.before.diamond.ensures.0 c.before.before.before.before.before.before.before.before.before.d.given.1)
-          c.before.before.before.before.take.ensures.0 c.before.before.before.before.take.ensures.2),
-      c.before.before.before.before.take.ensures.1,
+          c.requires.0
+          c.diamond.ensures.0 c.in-At.is)
+          c.take.ensures.0 c.take.ensures.2),
+      c.take.ensures.1,
     )))

@@ -24,7 +24,7 @@ use Rattle.layers.proofs.reach.Tie as tie
 use Rattle.layers.proofs.reach.Reads as reads
 use Rattle.layers.proofs.reach.Lts as lts
 
-abbrev invariant_loop : tie.invariant_loop
+abbrev invariant_loop : tie.invariant-loop-limits
 invariant_loop words₀ counts₀ limits relation a b states x₀ d₀ words counts x d =
     (length words ≡ length words₀) × (length counts ≡ length counts₀) × (states ≡ 2 ^ limits.bits)
     × CountsOf (view limits.rows words) counts
@@ -32,7 +32,7 @@ invariant_loop words₀ counts₀ limits relation a b states x₀ d₀ words cou
     → Denotes (2 * limits.bits) (rows_of (view limits.rows words₀)) a (fn_of limits.bits A)
     → Passing limits.bits limits.limit (view limits.rows words₀) (view limits.rows words) relation b S A d x)
 
-abbrev decreases_loop : tie.decreases_loop
+abbrev decreases_loop : tie.decreases-loop-limits
 decreases_loop words₀ counts₀ limits relation a b states x₀ d₀ words counts x d = suc (suc (2 ^ limits.bits)) - d
 
 pub reach_spec : {M : Type 1} → statement M
@@ -41,97 +41,97 @@ reach_spec =
     (tie.spec
     invariant_loop
     decreases_loop
-    (λ c. omega (arith, base-bits c.before.before.before.requires.0.start.base))
+    (λ c. omega (arith, base-bits c.requires.0.start.base))
     (λ c. (
       refl,
       refl,
-      power_fits c.before.before.before.args.limits.bits (base-bits c.before.before.before.requires.0.start.base),
-      c.before.before.before.requires.1,
-      λ S A from. pass_starts c.before.before.before.requires.0 S A,
+      power_fits c.args.limits.bits (base-bits c.requires.0.start.base),
+      c.requires.1,
+      λ S A from. pass_starts c.requires.0 S A,
     ))
-    (λ c κs. pass_walks c.before.before.before.before.before.requires.0 c.before.loop.invariant.4)
-    (λ c. c.before.before.before.loop.invariant.0)
-    (λ c. c.before.before.before.loop.invariant.1)
+    (λ c κs. pass_walks c.requires.0 c.loop-limits.invariant.4)
+    (λ c. c.loop-limits.invariant.0)
+    (λ c. c.loop-limits.invariant.1)
     (λ c. (
-      (λ S A from. pass_meets c.before.before.before.before.before.before.before.requires.0
-          c.before.before.before.loop.invariant.4 c.before.least-common.ensures S A from
-          (omega (arith, c.if1.true, c.before.before.before.loop.invariant.2))),
-      c.before.before.before.loop.invariant.3,
+      (λ S A from. pass_meets c.requires.0
+          c.loop-limits.invariant.4 c.least_common-s.ensures S A from
+          (omega (arith, c.if-s-states.true, c.loop-limits.invariant.2))),
+      c.loop-limits.invariant.3,
     ))
     (λ c κs. (
-      next-asks c.before.before.before.before.before.before.before.before.before.requires.0.start
-          (c.before.before.before.before.before.loop.invariant.4
-          c.before.before.before.before.before.before.before.before.before.requires.0.scene
-          c.before.before.before.before.before.before.before.before.before.requires.0.A
-          c.before.before.before.before.before.before.before.before.before.requires.0.from).layered,
-      c.before.before.before.before.before.loop.invariant.3,
+      next-asks c.requires.0.start
+          (c.loop-limits.invariant.4
+          c.requires.0.scene
+          c.requires.0.A
+          c.requires.0.from).layered,
+      c.loop-limits.invariant.3,
     ))
     (λ c. search rules)
     (λ c. search rules)
-    (λ c. c.before.before.before.before.before.before.next-layer.auto.0
-    ∙ c.before.before.before.before.before.before.before.before.before.before.before.before.loop.invariant.0)
-    (λ c. c.before.before.before.before.before.before.next-layer.auto.1.0
-    ∙ c.before.before.before.before.before.before.before.before.before.before.before.before.loop.invariant.1)
+    (λ c. c.next_layer.auto.words
+    ∙ c.loop-limits.invariant.0)
+    (λ c. c.next_layer.auto.counts
+    ∙ c.loop-limits.invariant.1)
     (λ c. (
       (λ S A from. pass_full
-          c.before.before.before.before.before.before.before.before.before.before.before.before.before.before.before.before.requires.0 c.before.before.before.before.before.before.before.before.before.before.before.before.loop.invariant.4
-          c.before.before.before.before.before.before.before.before.before.before.least-common.ensures S A from
+          c.requires.0 c.loop-limits.invariant.4
+          c.least_common-s.ensures S A from
           (omega (
             arith,
-            c.before.before.before.before.before.before.before.before.before.if1.false,
-            c.before.before.before.before.before.before.before.before.before.before.before.before.loop.invariant.2,
+            c.if-s-states.false,
+            c.loop-limits.invariant.2,
           ))
-          c.before.before.before.before.before.before.next-layer.ensures.0 c.enum_told.given.1),
-      c.before.before.before.before.before.before.next-layer.ensures.1,
+          c.next_layer.ensures.0 c.in_default.is),
+      c.next_layer.ensures.1,
     ))
-    (λ c. c.before.before.before.before.before.before.before.before.next-layer.auto.0
-    ∙ c.before.before.before.before.before.before.before.before.before.before.before.before.before.before.loop.invariant.0)
-    (λ c. c.before.before.before.before.before.before.before.before.next-layer.auto.1.0
-    ∙ c.before.before.before.before.before.before.before.before.before.before.before.before.before.before.loop.invariant.1)
+    (λ c. c.next_layer.auto.words
+    ∙ c.loop-limits.invariant.0)
+    (λ c. c.next_layer.auto.counts
+    ∙ c.loop-limits.invariant.1)
     (λ c. (
       (λ S A from. pass_still
-          c.before.before.before.before.before.before.before.before.before.before.before.before.before.before.before.before.before.before.requires.0
-          c.before.before.before.before.before.before.before.before.before.before.before.before.before.before.loop.invariant.4
-          c.before.before.before.before.before.before.before.before.before.before.before.before.least-common.ensures S A
+          c.requires.0
+          c.loop-limits.invariant.4
+          c.least_common-s.ensures S A
           from
           (omega (
             arith,
-            c.before.before.before.before.before.before.before.before.before.before.before.if1.false,
-            c.before.before.before.before.before.before.before.before.before.before.before.before.before.before.loop.invariant.2,
+            c.if-s-states.false,
+            c.loop-limits.invariant.2,
           ))
-          c.before.before.before.before.before.before.before.before.next-layer.ensures.0 c.before.before.y.given.1
-          c.if2.true),
-      c.before.before.before.before.before.before.before.before.next-layer.ensures.1,
+          c.next_layer.ensures.0 c.in-At.is
+          c.if-y-x.true),
+      c.next_layer.ensures.1,
     ))
     (λ c. let h =
     pass_bound
-    c.before.before.before.before.before.before.before.before.before.before.before.before.before.before.before.before.before.before.requires.0
-    c.before.before.before.before.before.before.before.before.before.before.before.before.before.before.loop.invariant.4 in
+    c.requires.0
+    c.loop-limits.invariant.4 in
     let k =
     pass_count
-    c.before.before.before.before.before.before.before.before.before.before.before.before.before.before.before.before.before.before.requires.0 in omega arith)
+    c.requires.0 in omega arith)
     (λ c. let h =
     pass_bound
-    c.before.before.before.before.before.before.before.before.before.before.before.before.before.before.before.before.before.before.requires.0
-    c.before.before.before.before.before.before.before.before.before.before.before.before.before.before.loop.invariant.4 in
+    c.requires.0
+    c.loop-limits.invariant.4 in
     omega arith)
     (λ c. (
-      c.before.before.before.before.before.before.before.before.next-layer.auto.0
-          ∙ c.before.before.before.before.before.before.before.before.before.before.before.before.before.before.loop.invariant.0,
-      c.before.before.before.before.before.before.before.before.next-layer.auto.1.0
-          ∙ c.before.before.before.before.before.before.before.before.before.before.before.before.before.before.loop.invariant.1,
-      c.before.before.before.before.before.before.before.before.before.before.before.before.before.before.loop.invariant.2,
-      c.before.before.before.before.before.before.before.before.next-layer.ensures.1,
+      c.next_layer.auto.words
+          ∙ c.loop-limits.invariant.0,
+      c.next_layer.auto.counts
+          ∙ c.loop-limits.invariant.1,
+      c.loop-limits.invariant.2,
+      c.next_layer.ensures.1,
       λ S A from. pass_turns
-          c.before.before.before.before.before.before.before.before.before.before.before.before.before.before.before.before.before.before.requires.0
-          c.before.before.before.before.before.before.before.before.before.before.before.before.before.before.loop.invariant.4
-          c.before.before.before.before.before.before.before.before.before.before.before.before.least-common.ensures S A
+          c.requires.0
+          c.loop-limits.invariant.4
+          c.least_common-s.ensures S A
           from
           (omega (
             arith,
-            c.before.before.before.before.before.before.before.before.before.before.before.if1.false,
-            c.before.before.before.before.before.before.before.before.before.before.before.before.before.before.loop.invariant.2,
+            c.if-s-states.false,
+            c.loop-limits.invariant.2,
           ))
-          c.before.before.before.before.before.before.before.before.next-layer.ensures.0 c.before.before.y.given.1
-          c.if2.false,
+          c.next_layer.ensures.0 c.in-At.is
+          c.if-y-x.false,
     )))

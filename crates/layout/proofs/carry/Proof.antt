@@ -8,5 +8,5 @@ pub carry_spec : {M : Type 1} → statement M
 carry_spec =
     tie.close
     (tie.spec (λ c κs. search rules) (λ c κs. search rules)
-    (λ c. carry-yes _ c.before.before.is-marked.ensures c.before.if1.true c.flip.ensures)
-    (λ c. carry-no _ c.before.is-marked.ensures c.if1.false))
+    (λ c. carry-yes _ c.is_marked.ensures c.if-is_marked.true c.flip.ensures)
+    (λ c. carry-no _ c.is_marked.ensures c.if-is_marked.false))

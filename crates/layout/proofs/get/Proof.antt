@@ -13,4 +13,4 @@ get_spec =
     (λ c. search rules)
     (λ c. search rules)
     (λ c. search rules)
-    (λ c. rw (cell-is _ _ _ _ c.before.requires.0 c.before.requires.1)))
+    (λ c. rw (cell-is _ _ _ _ c.requires.0 c.requires.1)))

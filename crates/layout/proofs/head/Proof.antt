@@ -13,4 +13,4 @@ head_spec =
     (λ c. search rules)
     (λ c. search rules)
     (λ c. search rules)
-    (λ c. rw (head-is _ _ _ c.before.requires.0)))
+    (λ c. rw (head-is _ _ _ c.requires.0)))

@@ -10,4 +10,4 @@ header_word_spec =
     (tie.spec
     (λ c. search rules)
     (λ c. search rules)
-    (λ c. rw (header_is _ _ c.before.requires.0)))
+    (λ c. rw (header_is _ _ c.requires.0)))

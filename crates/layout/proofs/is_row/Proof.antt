@@ -8,5 +8,5 @@ pub is_row_spec : {M : Type 1} → statement M
 is_row_spec =
     tie.close
     (tie.spec
-    (λ c. sym (row-yes _ c.if1.true))
-    (λ c. sym (row-no _ c.if1.false)))
+    (λ c. sym (row-yes _ c.if-a-ge-FIRST_ROW.true))
+    (λ c. sym (row-no _ c.if-a-ge-FIRST_ROW.false)))

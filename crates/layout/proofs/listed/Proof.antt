@@ -13,4 +13,4 @@ listed_spec =
     (λ c. search rules)
     (λ c. search rules)
     (λ c. search rules)
-    (λ c. rw (list-is _ _ _ c.before.requires.0)))
+    (λ c. rw (list-is _ _ _ c.requires.0)))

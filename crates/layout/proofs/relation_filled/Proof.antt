@@ -9,7 +9,7 @@ pub relation_filled_spec : {M : Type 1} → statement M
 relation_filled_spec =
     tie.close
     (tie.spec
-    (λ c. sym (root-past _ _ _ _ c.if1.true))
+    (λ c. sym (root-past _ _ _ _ c.if-t-ge-RELATIONS.true))
     (λ c. search rules)
     (λ c κs. search rules)
-    (λ c. root_is _ _ _ _ c.before.if1.false c.root-word.ensures))
+    (λ c. root_is _ _ _ _ c.if-t-ge-RELATIONS.false c.root_word.ensures))

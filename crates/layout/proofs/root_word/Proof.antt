@@ -9,8 +9,8 @@ pub root_word_spec : {M : Type 1} → statement M
 root_word_spec =
     tie.close
     (tie.spec
-    (λ c. sym (header-past _ _ c.if1.true))
-    (λ c. sym (header-end _ _ c.before.if1.false c.if2.true))
+    (λ c. sym (header-past _ _ c.if-h-ge-HEADER.true))
+    (λ c. sym (header-end _ _ c.if-h-ge-HEADER.false c.if-h-words.true))
     (λ c. search rules)
     (λ c. search rules)
-    (λ c. sym (header_is _ _ c.before.before.if1.false)))
+    (λ c. sym (header_is _ _ c.if-h-ge-HEADER.false)))

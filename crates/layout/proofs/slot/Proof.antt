@@ -13,4 +13,4 @@ slot_spec =
     (λ c. search rules)
     (λ c. search rules)
     (λ c. search rules)
-    (λ c. rw (slot_is _ _ _ c.before.requires.0)))
+    (λ c. rw (slot_is _ _ _ c.requires.0)))

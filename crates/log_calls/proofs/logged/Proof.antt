@@ -17,24 +17,24 @@ logged_spec =
     tie.close
     (tie.spec
     (λ c κs. search rules)
-    (λ c. log_sizes c.before.before.before.before.before.before.args.t c.before.before.before.before.before.before.args.one.now c.before.before.before.before.before.before.args.two.now c.before.before.before.before.before.before.args.words.now c.before.before.before.before.before.before.args.list.now (says_fail c.if1.true c.before.logs_fit_lem.ensures))
+    (λ c. log_sizes c.args.t c.args.one.now c.args.two.now c.args.words.now c.args.list.now (says_fail c.if-not-logs_fit.true-raw c.logs_fit.ensures))
     (λ c κs. search rules)
     (λ c. search rules)
-    (λ c. log_unsound c.before.before.before.before.before.before.before.before.before.args.t c.before.before.before.before.before.before.before.before.before.args.one.now c.before.before.before.before.before.before.before.before.before.args.two.now c.before.before.before.before.before.before.before.before.before.args.words.now c.before.before.before.before.before.before.before.before.before.args.list.now (says_pass c.before.before.before.if1.false
-    c.before.before.before.before.logs_fit_lem.ensures) (says_fail c.if2.true c.before.sound.ensures))
+    (λ c. log_unsound c.args.t c.args.one.now c.args.two.now c.args.words.now c.args.list.now (says_pass c.if-not-logs_fit.false-raw
+    c.logs_fit.ensures) (says_fail c.if-not-sound.true-raw c.sound.ensures))
     (λ c. search rules)
-    (λ c. log_range c.before.before.before.before.before.before.before.before.before.before.args.t c.before.before.before.before.before.before.before.before.before.before.args.one.now c.before.before.before.before.before.before.before.before.before.before.args.two.now c.before.before.before.before.before.before.before.before.before.before.args.words.now c.before.before.before.before.before.before.before.before.before.before.args.list.now (says_pass c.before.before.before.before.if1.false c.before.before.before.before.before.logs_fit_lem.ensures) (says_pass c.before.if2.false c.before.before.sound.ensures) (λ r. omega (arith, r, c.if3.true)))
-    (λ c κs. let q = (says_pass c.before.before.if2.false c.before.before.before.sound.ensures).good.sizes in omega arith)
-    (λ c κs. let q = (says_pass c.before.before.before.before.if2.false c.before.before.before.before.before.sound.ensures).good.sizes in omega arith)
-    (λ c κs. let q = (says_pass c.before.before.before.before.before.before.if2.false c.before.before.before.before.before.before.before.sound.ensures).good.sizes in omega arith)
+    (λ c. log_range c.args.t c.args.one.now c.args.two.now c.args.words.now c.args.list.now (says_pass c.if-not-logs_fit.false-raw c.logs_fit.ensures) (says_pass c.if-not-sound.false-raw c.sound.ensures) (λ r. omega (arith, r, c.if-t-ge-RELATIONS.true)))
+    (λ c κs. let q = (says_pass c.if-not-sound.false-raw c.sound.ensures).good.sizes in omega arith)
+    (λ c κs. let q = (says_pass c.if-not-sound.false-raw c.sound.ensures).good.sizes in omega arith)
+    (λ c κs. let q = (says_pass c.if-not-sound.false-raw c.sound.ensures).good.sizes in omega arith)
     (λ c. search rules)
-    (λ c κs. let g = c.before.before.before.before.before.before.before.if3.false in let q = (says_pass c.before.before.before.before.before.before.before.before.if2.false c.before.before.before.before.before.before.before.before.before.sound.ensures).good.sizes in omega arith)
+    (λ c κs. let g = c.if-t-ge-RELATIONS.false in let q = (says_pass c.if-not-sound.false-raw c.sound.ensures).good.sizes in omega arith)
     (λ c. search rules)
-    (λ c. log_empty c.before.before.before.before.before.before.before.before.before.before.before.before.before.before.before.before.before.before.before.args.t c.before.before.before.before.before.before.before.before.before.before.before.before.before.before.before.before.before.before.before.args.one.now c.before.before.before.before.before.before.before.before.before.before.before.before.before.before.before.before.before.before.before.args.two.now c.before.before.before.before.before.before.before.before.before.before.before.before.before.before.before.before.before.before.before.args.words.now c.before.before.before.before.before.before.before.before.before.before.before.before.before.before.before.before.before.before.before.args.list.now (says_pass c.before.before.before.before.before.before.before.before.before.before.before.before.before.if1.false c.before.before.before.before.before.before.before.before.before.before.before.before.before.before.logs_fit_lem.ensures) (says_pass c.before.before.before.before.before.before.before.before.before.before.if2.false c.before.before.before.before.before.before.before.before.before.before.before.sound.ensures) c.before.before.before.before.before.before.before.before.before.if3.false c.before.header-word4.ensures c.if4.true)
-    (λ c. omega (arith, c.before.before.if4.false))
-    (λ c. valid_positive c.before.before.before.before.before.before.before.before.before.before.before.before.before.before.before.before.before.before.before.before.before.args.one.now c.before.before.before.before.before.before.before.before.before.before.before.before.before.before.before.before.before.before.before.before.before.args.two.now c.before.before.before.before.before.before.before.before.before.before.before.before.before.before.before.before.before.before.before.before.before.args.words.now (says_pass c.before.before.before.before.before.before.before.before.before.before.before.before.before.before.before.if1.false c.before.before.before.before.before.before.before.before.before.before.before.before.before.before.before.before.logs_fit_lem.ensures) (says_pass c.before.before.before.before.before.before.before.before.before.before.before.before.if2.false c.before.before.before.before.before.before.before.before.before.before.before.before.before.sound.ensures) c.before.before.before.before.before.before.before.before.before.before.before.if3.false c.before.before.before.before.before.before.before.before.before.header-word.ensures c.before.before.before.before.before.before.before.header-word2.ensures c.before.before.before.before.before.header-word3.ensures c.before.before.before.header-word4.ensures c.before.before.if4.false)
-    (λ c κs. call_asks c.before.before.before.before.before.before.before.before.before.before.before.before.before.before.before.before.before.before.before.before.before.args.one.now c.before.before.before.before.before.before.before.before.before.before.before.before.before.before.before.before.before.before.before.before.before.args.two.now c.before.before.before.before.before.before.before.before.before.before.before.before.before.before.before.before.before.before.before.before.before.args.words.now (says_pass c.before.before.before.before.before.before.before.before.before.before.before.before.before.before.before.if1.false c.before.before.before.before.before.before.before.before.before.before.before.before.before.before.before.before.logs_fit_lem.ensures) (says_pass c.before.before.before.before.before.before.before.before.before.before.before.before.if2.false c.before.before.before.before.before.before.before.before.before.before.before.before.before.sound.ensures) c.before.before.before.before.before.before.before.before.before.before.before.if3.false c.before.before.before.before.before.before.before.before.before.header-word.ensures c.before.before.before.before.before.before.before.header-word2.ensures c.before.before.before.before.before.header-word3.ensures c.before.before.before.header-word4.ensures c.before.before.if4.false)
+    (λ c. log_empty c.args.t c.args.one.now c.args.two.now c.args.words.now c.args.list.now (says_pass c.if-not-logs_fit.false-raw c.logs_fit.ensures) (says_pass c.if-not-sound.false-raw c.sound.ensures) c.if-t-ge-RELATIONS.false c.header_word-z.ensures c.if-z-eq0.true)
+    (λ c. omega (arith, c.if-z-eq0.false))
+    (λ c. valid_positive c.args.one.now c.args.two.now c.args.words.now (says_pass c.if-not-logs_fit.false-raw c.logs_fit.ensures) (says_pass c.if-not-sound.false-raw c.sound.ensures) c.if-t-ge-RELATIONS.false c.header_word-rows.ensures c.header_word-bits.ensures c.header_word-valid.ensures c.header_word-z.ensures c.if-z-eq0.false)
+    (λ c κs. call_asks c.args.one.now c.args.two.now c.args.words.now (says_pass c.if-not-logs_fit.false-raw c.logs_fit.ensures) (says_pass c.if-not-sound.false-raw c.sound.ensures) c.if-t-ge-RELATIONS.false c.header_word-rows.ensures c.header_word-bits.ensures c.header_word-valid.ensures c.header_word-z.ensures c.if-z-eq0.false)
     (λ c. search rules)
     (λ c. search rules)
-    (λ c. call_ends c.before.before.before.before.before.before.before.before.before.before.before.before.before.before.before.before.before.before.before.before.before.before.before.before.before.before.args.one.now c.before.before.before.before.before.before.before.before.before.before.before.before.before.before.before.before.before.before.before.before.before.before.before.before.before.before.args.two.now c.before.before.before.before.before.before.before.before.before.before.before.before.before.before.before.before.before.before.before.before.before.before.before.before.before.before.args.words.now (says_pass c.before.before.before.before.before.before.before.before.before.before.before.before.before.before.before.before.before.before.before.before.if1.false c.before.before.before.before.before.before.before.before.before.before.before.before.before.before.before.before.before.before.before.before.before.logs_fit_lem.ensures) (says_pass c.before.before.before.before.before.before.before.before.before.before.before.before.before.before.before.before.before.if2.false c.before.before.before.before.before.before.before.before.before.before.before.before.before.before.before.before.before.before.sound.ensures) c.before.before.before.before.before.before.before.before.before.before.before.before.before.before.before.before.if3.false c.before.before.before.before.before.before.before.before.before.before.before.before.before.before.header-word.ensures c.before.before.before.before.before.before.before.before.before.before.before.before.header-word2.ensures
-    c.before.before.before.before.before.before.before.before.before.before.header-word3.ensures c.before.before.before.before.before.before.before.before.header-word4.ensures c.before.before.before.before.before.before.before.if4.false _ c.before.before.before.before.before.before.before.before.before.before.before.before.before.before.before.before.before.before.before.before.before.before.before.before.before.before.args.list.now _ c.before.before.before.before.search.ensures))
+    (λ c. call_ends c.args.one.now c.args.two.now c.args.words.now (says_pass c.if-not-logs_fit.false-raw c.logs_fit.ensures) (says_pass c.if-not-sound.false-raw c.sound.ensures) c.if-t-ge-RELATIONS.false c.header_word-rows.ensures c.header_word-bits.ensures
+    c.header_word-valid.ensures c.header_word-z.ensures c.if-z-eq0.false _ c.args.list.now _ c.search.ensures))

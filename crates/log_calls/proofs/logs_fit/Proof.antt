@@ -9,11 +9,11 @@ pub logs_fit_spec : {M : Type 1} → statement M
 logs_fit_spec =
     tie.close
     (tie.spec
-    (λ c. fails (λ q. let (e, w, s, m) = fits_out c.before.args.one c.before.args.two q in omega (arith, e)))
-    (λ c. fails (λ q. let (e, w, s, m) = fits_out c.before.before.args.one c.before.before.args.two q in omega (arith, w)))
-    (λ c. fails (λ q. let (e, w, s, m) = fits_out c.before.before.before.args.one
-    c.before.before.before.args.two q in omega (arith, s)))
-    (λ c. fails (λ q. let (e, w, s, m) = fits_out c.before.before.before.before.args.one
-    c.before.before.before.before.args.two q in omega (arith, m)))
-    (λ c. holds (fits_in c.before.before.before.before.args.one c.before.before.before.before.args.two (omega arith)
+    (λ c. fails (λ q. let (e, w, s, m) = fits_out c.args.one c.args.two q in omega (arith, e)))
+    (λ c. fails (λ q. let (e, w, s, m) = fits_out c.args.one c.args.two q in omega (arith, w)))
+    (λ c. fails (λ q. let (e, w, s, m) = fits_out c.args.one
+    c.args.two q in omega (arith, s)))
+    (λ c. fails (λ q. let (e, w, s, m) = fits_out c.args.one
+    c.args.two q in omega (arith, m)))
+    (λ c. holds (fits_in c.args.one c.args.two (omega arith)
     (omega arith) (omega arith) (omega arith))))

@@ -18,7 +18,7 @@ count_stored_spec =
     (λ c. search rules)
     (λ c κs. search rules)
     (λ c. search rules)
-    (λ c. fewer-stored _ c.before.before.before.before.before.before.before.before.before.before.requires.1
-    (let t = c.before.before.before.before.if1.false in
-    let e = c.before.before.before.before.before.before.before.header-word.ensures in omega arith)
-    c.before.before.put_header_lem.ensures))
+    (λ c. fewer-stored _ c.requires.1
+    (let t = c.if-stored-slots.false in
+    let e = c.header_word-slots.ensures in omega arith)
+    c.put_header.ensures))

@@ -15,20 +15,20 @@ double_spec =
     (λ c. search rules)
     (λ c. search rules)
     (λ c. search rules)
-    (λ c. fewer-stored _ c.before.before.before.before.before.before.requires.1 (omega arith)
-    c.before.before.before.put_header_lem.ensures)
+    (λ c. fewer-stored _ c.requires.1 (omega arith)
+    c.put_header.ensures)
     (λ c. search rules)
     (λ c κs. (
       omega arith,
       omega arith,
-      room-memo (memo-stored _ _) c.before.before.before.before.put_header_lem.ensures
-          c.before.before.before.before.before.before.before.requires.0,
+      room-memo (memo-stored _ _) c.put_header.ensures
+          c.requires.0,
     ))
     (λ c. search rules)
     (λ c κs. search rules)
     (λ c. search rules)
     (λ c. fewer_doubled
-    c.before.before.before.before.before.before.before.before.before.before.before.before.before.before.requires.2
-    c.before.before.before.before.before.before.before.before.before.before.before.put_header_lem.ensures
-    c.before.before.before.before.before.before.empty-slots.ensures c.before.before.put-header2.ensures
-    (let t = c.before.before.before.before.before.before.before.before.if1.false in omega arith)))
+    c.requires.2
+    c.put_header.ensures
+    c.empty_slots.ensures c.put_header-2.ensures
+    (let t = c.if-slots-rows.false in omega arith)))

@@ -16,29 +16,29 @@ forget_spec =
     (λ c κs. search rules)
     (λ c κs. (
       omega arith,
-      (let e = c.before.before.before.before.before.before.before.before.before.first-slots.ensures in omega arith),
-      forget-room _ c.before.before.before.before.before.before.before.before.before.before.before.before.before.requires
-          c.before.before.before.before.before.before.before.put_header_lem.ensures
-          c.before.before.before.put-header2.ensures,
+      (let e = c.first_slots-slots.ensures in omega arith),
+      forget-room _ c.requires
+          c.put_header.ensures
+          c.put_header-2.ensures,
     ))
     (λ c κs. let g =
-    c.before.before.before.before.before.before.before.before.before.before.before.before.before.before.before.before.before.requires in let z =
+    c.requires in let z =
     g.sizes in let r =
     g.ranked.count-le in let e =
-    c.before.before.before.before.before.before.before.before.before.before.before.before.before.before.header-word.ensures in let a =
-    c.before.before.before.before.before.before.before.before.before.before.before.put_header_lem.auto.0 in let b =
-    c.before.before.before.before.before.before.before.put-header2.auto.0 in let d =
-    c.before.before.before.empty-slots.auto.0 in (
+    c.header_word-used.ensures in let a =
+    c.put_header.auto.words in let b =
+    c.put_header-2.auto.words in let d =
+    c.empty_slots.auto.words in (
       omega arith,
       omega arith,
       λ k h. forget-list _
-          c.before.before.before.before.before.before.before.before.before.before.before.before.before.before.before.before.before.requires c.before.before.before.before.before.before.before.before.before.before.before.put_header_lem.ensures
-          c.before.before.before.before.before.before.before.put-header2.ensures
-          c.before.before.before.before.before.before.before.before.before.before.before.before.before.before.header-word.ensures c.before.before.before.empty-slots.ensures h,
+          c.requires c.put_header.ensures
+          c.put_header-2.ensures
+          c.header_word-used.ensures c.empty_slots.ensures h,
     ))
     (λ c. search rules)
     (λ c. forgot_by
-    c.before.before.before.before.before.before.before.before.before.before.before.before.before.before.before.before.before.header-word.ensures
-    c.before.before.before.before.before.before.before.before.before.before.before.before.before.before.before.before.first-slots.ensures
-    c.before.before.before.before.before.before.before.before.before.before.before.before.before.before.put_header_lem.ensures c.before.before.before.before.before.before.before.before.before.before.put-header2.ensures
-    c.before.before.before.before.before.before.empty-slots.ensures c.before.before.forget-rows.ensures))
+    c.header_word-used.ensures
+    c.first_slots-slots.ensures
+    c.put_header.ensures c.put_header-2.ensures
+    c.empty_slots.ensures c.forget_rows.ensures))

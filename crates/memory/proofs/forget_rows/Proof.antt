@@ -9,10 +9,10 @@ use Rattle.memory.proofs.ForgetLaws.{rows_none, rows_more, rows-list}
 use Rattle.memory.proofs.forget_rows.Statement.{statement}
 use Rattle.memory.proofs.forget_rows.Tie as tie
 
-abbrev invariant_loop : tie.invariant_loop
+abbrev invariant_loop : tie.invariant-loop-k
 invariant_loop words₀ rows used k₀ words k = (k ≤ used) × (length words ≡ length words₀) × RowsForgot (view rows words₀) (view rows words) k
 
-abbrev decreases_loop : tie.decreases_loop
+abbrev decreases_loop : tie.decreases-loop-k
 decreases_loop words₀ rows used k₀ words k = used - k
 
 pub forget_rows_spec : {M : Type 1} → statement M
@@ -22,19 +22,19 @@ forget_rows_spec =
     invariant_loop
     decreases_loop
     (λ c. (omega arith, refl, rows_none _))
-    (λ c κs. let p = c.before.before.before.before.requires in
-    let v = c.before.before.loop.invariant.1 in let t = c.before.loop-test.true in omega arith)
-    (λ c κs. let p = c.before.before.before.before.before.before.requires in
-    let v = c.before.before.before.before.loop.invariant.1 in
-    let q = c.before.before.before.before.before.before.requires.2 _ c.before.before.before.loop-test.true in
-    let e = c.before.listed.ensures ∙ rows-list c.before.before.before.before.loop.invariant.2 _ in omega arith)
-    (λ c. let t = c.before.before.before.before.before.before.loop-test.true in omega arith)
-    (λ c. let t = c.before.before.before.before.before.before.loop-test.true in omega arith)
-    (λ c. let t = c.before.before.before.before.before.before.loop-test.true in
-    let v = c.before.before.before.before.before.before.before.loop.invariant in (
+    (λ c κs. let p = c.requires in
+    let v = c.loop-k.invariant.1 in let t = c.loop-k-test.true in omega arith)
+    (λ c κs. let p = c.requires in
+    let v = c.loop-k.invariant.1 in
+    let q = c.requires.2 _ c.loop-k-test.true in
+    let e = c.listed-i.ensures ∙ rows-list c.loop-k.invariant.2 _ in omega arith)
+    (λ c. let t = c.loop-k-test.true in omega arith)
+    (λ c. let t = c.loop-k-test.true in omega arith)
+    (λ c. let t = c.loop-k-test.true in
+    let v = c.loop-k.invariant in (
       omega arith,
-      c.before.before.put.auto.0 ∙ v.1,
-      rows_more v.2 c.before.before.before.before.listed.ensures c.before.before.put.ensures,
+      c.put.auto.words ∙ v.1,
+      rows_more v.2 c.listed-i.ensures c.put.ensures,
     ))
-    (λ c. c.before.loop.invariant.1)
-    (λ c. let e : c.before.loop.k ≡ c.before.before.before.args.used = omega arith in rw e at c.before.loop.invariant.2))
+    (λ c. c.loop-k.invariant.1)
+    (λ c. let e : c.loop-k.k ≡ c.args.used = omega arith in rw e at c.loop-k.invariant.2))

@@ -8,5 +8,5 @@ use Rattle.memory.proofs.held_for.Tie as tie
 pub held_for_spec : {M : Type 1} → statement M
 held_for_spec =
     tie.close
-    (tie.spec (λ c κs. search rules) (λ c. held-turned _ _ (sym c.before.is-marked.ensures ∙ c.if1.true))
-    (λ c. held_plain _ _ (sym c.before.is-marked.ensures ∙ c.if1.false)))
+    (tie.spec (λ c κs. search rules) (λ c. held-turned _ _ (sym c.is_marked.ensures ∙ c.if-is_marked.true))
+    (λ c. held_plain _ _ (sym c.is_marked.ensures ∙ c.if-is_marked.false)))

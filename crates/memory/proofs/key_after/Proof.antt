@@ -9,6 +9,6 @@ pub key_after_spec : {M : Type 1} → statement M
 key_after_spec =
     tie.close
     (tie.spec (λ c κs. search rules) (λ c. search rules) (λ c. search rules) (λ c. search rules)
-    (λ c. key_turned _ _ _ 0 (sym c.before.is-marked.ensures ∙ c.if1.true))
-    (λ c. key_same _ _ _ 0 (sym c.before.before.is-marked.ensures ∙ c.before.if1.false) c.if2.true)
-    (λ c. key_other _ _ _ 0 (sym c.before.before.is-marked.ensures ∙ c.before.if1.false) c.if2.false))
+    (λ c. key_turned _ _ _ 0 (sym c.is_marked.ensures ∙ c.if-is_marked.true))
+    (λ c. key_same _ _ _ 0 (sym c.is_marked.ensures ∙ c.if-is_marked.false) c.if-key-kind.true)
+    (λ c. key_other _ _ _ 0 (sym c.is_marked.ensures ∙ c.if-is_marked.false) c.if-key-kind.false))

@@ -20,13 +20,13 @@ recall_spec =
     (λ c. search rules)
     (λ c κs. search rules)
     (λ c. record {
-      at = c.before.before.before.before.before.slot_of.result;
+      at = c.slot_of-at.result;
       active =
-          rw (← c.before.before.before.before.before.before.before.header-word.ensures)
-          c.before.before.before.before.before.slot_of.ensures;
+          rw (← c.header_word-slots.ensures)
+          c.slot_of-at.ensures;
       first =
-          sym c.before.before.before.before.slot.ensures ∙ c.before.before.before.if2.false;
+          sym c.slot.ensures ∙ c.if-slot-lo.false;
       second =
-          sym c.before.before.slot2.ensures ∙ c.before.if3.false;
-      value = c.slot3.ensures;
+          sym c.slot-2.ensures ∙ c.if-slot-hi.false;
+      value = c.slot-3.ensures;
     }))

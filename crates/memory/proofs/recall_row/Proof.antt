@@ -10,6 +10,6 @@ recall_row_spec =
     tie.close
     (tie.spec (λ c κs. search rules) (λ c. search rules) (λ c κs. search rules) (λ c κs. search rules) (λ c. search rules)
     (λ c. search rules)
-    (λ c. recalled (is_marked c.before.before.before.before.before.before.args.a) _
-    c.before.before.before.before.get.ensures c.before.before.get2.ensures c.before.before.before.if1.false
-    c.before.held-for.ensures c.if2.false))
+    (λ c. recalled (is_marked c.args.a) _
+    c.get-key.ensures c.get.ensures c.if-key-kind.false
+    c.held_for-word.ensures c.if-word-eq0.false))

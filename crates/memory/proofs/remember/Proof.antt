@@ -9,16 +9,16 @@ use Rattle.memory.proofs.remember.Tie as tie
 pub remember_spec : {M : Type 1} → statement M
 remember_spec =
     tie.close
-    (tie.spec (λ c. rw (code_is _ c.if1.true) refl) (λ c κs. search rules)
+    (tie.spec (λ c. rw (code_is _ c.if-r-eq-FULL.true) refl) (λ c κs. search rules)
     (λ c κs. (
-      room-memo c.before.before.before.count-stored.ensures.frame refl
-          c.before.before.before.before.before.before.before.requires.0,
-      c.before.before.before.count-stored.ensures.sizes,
+      room-memo c.count_stored.ensures.frame refl
+          c.requires.0,
+      c.count_stored.ensures.sizes,
     ))
     (λ c. search rules)
-    (λ c. rw (code_at _ c.before.before.before.before.before.before.before.before.if1.false)
+    (λ c. rw (code_at _ c.if-r-eq-FULL.false)
     (record {
       mid = _;
-      counted = c.before.before.before.before.before.before.count-stored.ensures;
-      wrote = c.before.before.write-entry.ensures;
+      counted = c.count_stored.ensures;
+      wrote = c.write_entry.ensures;
     })))

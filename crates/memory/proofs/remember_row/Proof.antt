@@ -9,7 +9,7 @@ pub remember_row_spec : {M : Type 1} → statement M
 remember_row_spec =
     tie.close
     (tie.spec
-    (λ c. kept-none (view c.before.before.args.rows c.before.before.args.words.now) _ _ _ _ c.if1.true)
+    (λ c. kept-none (view c.args.rows c.args.words.now) _ _ _ _ c.if-r-ge-MOST.true)
     (λ c κs. search rules)
     (λ c κs. search rules)
     (λ c κs. search rules)
@@ -18,11 +18,11 @@ remember_row_spec =
     (λ c κs. search rules)
     (λ c. search rules)
     (λ c. kept_by
-    (view c.before.before.before.before.before.before.before.before.before.before.before.before.before.before.before.before.args.rows
-    c.before.before.before.before.before.before.before.before.before.before.before.before.before.before.before.before.args.words.now) _ _ _ _
-    c.before.before.before.before.before.before.before.before.before.before.before.before.before.before.if1.false
-    c.before.before.before.before.before.before.before.before.before.before.before.before.get.ensures
-    c.before.before.before.before.before.before.before.before.before.before.get2.ensures
-    c.before.before.before.before.before.before.before.before.key-after.ensures
-    c.before.before.before.value_after.ensures c.before.before.before.before.before.before.before.put.ensures
-    c.before.before.put2.ensures))
+    (view c.args.rows
+    c.args.words.now) _ _ _ _
+    c.if-r-ge-MOST.false
+    c.get-key.ensures
+    c.get-value.ensures
+    c.key_after.ensures
+    c.value_after.ensures c.put.ensures
+    c.put-2.ensures))

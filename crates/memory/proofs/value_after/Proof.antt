@@ -9,6 +9,6 @@ pub value_after_spec : {M : Type 1} → statement M
 value_after_spec =
     tie.close
     (tie.spec (λ c κs. search rules) (λ c. search rules)
-    (λ c. value-plain _ _ _ _ (test_no c.before.is-marked.ensures c.if1.true))
-    (λ c. value_same _ _ _ _ (test_yes c.before.before.is-marked.ensures c.before.if1.false) c.if2.true)
-    (λ c. value_none _ _ _ _ (test_yes c.before.before.is-marked.ensures c.before.if1.false) c.if2.false))
+    (λ c. value-plain _ _ _ _ (test_no c.is_marked.ensures c.if-not-is_marked.true-raw))
+    (λ c. value_same _ _ _ _ (test_yes c.is_marked.ensures c.if-not-is_marked.false-raw) c.if-key-kind.true)
+    (λ c. value_none _ _ _ _ (test_yes c.is_marked.ensures c.if-not-is_marked.false-raw) c.if-key-kind.false))

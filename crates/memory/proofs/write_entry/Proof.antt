@@ -21,8 +21,8 @@ write_entry_spec =
     (λ c. search rules)
     (λ c κs. search rules)
     (λ c. search rules)
-    (λ c. wrote_by c.before.before.before.before.before.before.before.before.before.before.before.before.slot_of.result _ _
-    _ (rw (← c.before.before.before.before.before.before.before.before.before.before.before.before.before.before.header-word.ensures)
-    c.before.before.before.before.before.before.before.before.before.before.before.before.slot_of.ensures) refl
-    c.before.before.before.before.before.before.before.before.before.before.put-slot.ensures
-    c.before.before.before.before.before.before.put-slot2.ensures c.before.before.put-slot3.ensures))
+    (λ c. wrote_by c.slot_of-at.result _ _
+    _ (rw (← c.header_word-slots.ensures)
+    c.slot_of-at.ensures) refl
+    c.put_slot.ensures
+    c.put_slot-2.ensures c.put_slot-3.ensures))

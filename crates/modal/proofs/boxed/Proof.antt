@@ -12,62 +12,62 @@ boxed_spec =
     tie.close
     (tie.spec
     (λ c κs. (
-      complement-asks c.before.before.before.before.before.args.count c.before.before.before.before.before.requires.0,
-      c.before.before.before.before.before.requires.1,
+      complement-asks c.args.count c.requires.0,
+      c.requires.1,
     ))
     (λ c. search rules)
     (λ c. search rules)
-    (λ c. c.before.before.before.before.before.before.complement.auto.0)
-    (λ c. c.before.before.before.before.before.before.complement.auto.1.0)
+    (λ c. c.complement.auto.words)
+    (λ c. c.complement.auto.counts)
     (λ c. (
-      first-full c.before.before.before.before.before.before.before.before.before.before.before.before.args.count
-          c.before.before.before.before.before.before.before.before.before.before.before.before.requires.0
-          c.before.before.before.before.before.before.complement.ensures.0 c.enum_told.given.1,
-      c.before.before.before.before.before.before.complement.ensures.1,
+      first-full c.args.count
+          c.requires.0
+          c.complement.ensures.0 c.in_default.is,
+      c.complement.ensures.1,
     ))
     (λ c κs. (
       diamond-asks
-          c.before.before.before.before.before.before.before.before.before.before.before.before.before.before.before.args.count
-          c.before.before.before.before.before.before.before.before.before.before.before.before.before.before.before.requires.0
-          c.before.before.before.before.before.before.before.before.before.complement.ensures.0
-          c.before.before.before.b.given.1,
-      c.before.before.before.before.before.before.before.before.before.complement.ensures.1,
+          c.args.count
+          c.requires.0
+          c.complement.ensures.0
+          c.in-At.is,
+      c.complement.ensures.1,
     ))
     (λ c. search rules)
     (λ c. search rules)
-    (λ c. c.before.before.before.before.before.before.diamond.auto.0
-    ∙ c.before.before.before.before.before.before.before.before.before.before.before.before.before.before.before.before.complement.auto.0)
-    (λ c. c.before.before.before.before.before.before.diamond.auto.1.0
-    ∙ c.before.before.before.before.before.before.before.before.before.before.before.before.before.before.before.before.complement.auto.1.0)
+    (λ c. c.diamond.auto.words
+    ∙ c.complement.auto.words)
+    (λ c. c.diamond.auto.counts
+    ∙ c.complement.auto.counts)
     (λ c. (
       inner_full
-          c.before.before.before.before.before.before.before.before.before.before.before.before.before.before.before.before.before.before.before.before.before.before.args.count
-          c.before.before.before.before.before.before.before.before.before.before.before.before.before.before.before.before.before.before.before.before.before.before.requires.0
-          c.before.before.before.before.before.before.before.before.before.before.before.before.before.before.before.before.complement.ensures.0 c.before.before.before.before.before.before.before.before.before.before.b.given.1
-          c.before.before.before.before.before.before.diamond.ensures.0 c.enum-told2.given.1,
-      c.before.before.before.before.before.before.diamond.ensures.1,
+          c.args.count
+          c.requires.0
+          c.complement.ensures.0 c.in-At.is
+          c.diamond.ensures.0 c.in_default-diamond.is,
+      c.diamond.ensures.1,
     ))
     (λ c κs. (
       last-asks
-          c.before.before.before.before.before.before.before.before.before.before.before.before.before.before.before.before.before.before.before.before.before.before.before.before.before.args.count
-          c.before.before.before.before.before.before.before.before.before.before.before.before.before.before.before.before.before.before.before.before.before.before.before.before.before.requires.0
-          c.before.before.before.before.before.before.before.before.before.before.before.before.before.before.before.before.before.before.before.complement.ensures.0
-          c.before.before.before.before.before.before.before.before.before.before.before.before.before.b.given.1
-          c.before.before.before.before.before.before.before.before.before.diamond.ensures.0
-          c.before.before.before.c.given.1,
-      c.before.before.before.before.before.before.before.before.before.diamond.ensures.1,
+          c.args.count
+          c.requires.0
+          c.complement.ensures.0
+          c.in-At.is
+          c.diamond.ensures.0
+          c.in-At-diamond.is,
+      c.diamond.ensures.1,
     ))
-    (λ c. c.before.before.before.before.complement2.auto.0
-    ∙ c.before.before.before.before.before.before.before.before.before.before.before.before.before.before.diamond.auto.0 ∙ c.before.before.before.before.before.before.before.before.before.before.before.before.before.before.before.before.before.before.before.before.before.before.before.before.complement.auto.0)
-    (λ c. c.before.before.before.before.complement2.auto.1.0
-    ∙ c.before.before.before.before.before.before.before.before.before.before.before.before.before.before.diamond.auto.1.0 ∙ c.before.before.before.before.before.before.before.before.before.before.before.before.before.before.before.before.before.before.before.before.before.before.before.before.complement.auto.1.0)
+    (λ c. c.complement-2.auto.words
+    ∙ c.diamond.auto.words ∙ c.complement.auto.words)
+    (λ c. c.complement-2.auto.counts
+    ∙ c.diamond.auto.counts ∙ c.complement.auto.counts)
     (λ c. (
       box-ends
-          c.before.before.before.before.before.before.before.before.before.before.before.before.before.before.before.before.before.before.before.before.before.before.before.before.before.before.before.before.before.before.args.count
-          c.before.before.before.before.before.before.before.before.before.before.before.before.before.before.before.before.before.before.before.before.before.before.before.before.before.before.before.before.before.before.requires.0
-          c.before.before.before.before.before.before.before.before.before.before.before.before.before.before.before.before.before.before.before.before.before.before.before.before.complement.ensures.0
-          c.before.before.before.before.before.before.before.before.before.before.before.before.before.before.before.before.before.before.b.given.1
-          c.before.before.before.before.before.before.before.before.before.before.before.before.before.before.diamond.ensures.0 c.before.before.before.before.before.before.before.before.c.given.1
-          c.before.before.before.before.complement2.ensures.0,
-      c.before.before.before.before.complement2.ensures.1,
+          c.args.count
+          c.requires.0
+          c.complement.ensures.0
+          c.in-At.is
+          c.diamond.ensures.0 c.in-At-diamond.is
+          c.complement-2.ensures.0,
+      c.complement-2.ensures.1,
     )))

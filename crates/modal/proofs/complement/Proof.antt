@@ -13,90 +13,90 @@ pub complement_spec : {M : Type 1} → statement M
 complement_spec =
     tie.close
     (tie.spec
-    (λ c. omega (arith, base-bits c.before.before.before.before.requires.0.base))
+    (λ c. omega (arith, base-bits c.requires.0.base))
     (λ c κs. (
-      not-asks c.before.before.before.before.before.before.args.count
-          c.before.before.before.before.before.before.requires.0,
-      c.before.before.before.before.before.before.requires.1,
+      not-asks c.args.count
+          c.requires.0,
+      c.requires.1,
     ))
     (λ c. search rules)
     (λ c. search rules)
-    (λ c. c.before.before.before.before.before.before.take.auto.0)
-    (λ c. c.before.before.before.before.before.before.take.auto.1.0)
+    (λ c. c.take.auto.words)
+    (λ c. c.take.auto.counts)
     (λ c. (
-      not_full c.before.before.before.before.before.before.before.before.before.before.before.before.before.args.count
-          c.before.before.before.before.before.before.before.before.before.before.before.before.before.requires.0
-          (took c.before.before.before.before.before.before.before.before.before.before.before.before.before.requires.0.base
-          (not-asks c.before.before.before.before.before.before.before.before.before.before.before.before.before.args.count
-          c.before.before.before.before.before.before.before.before.before.before.before.before.before.requires.0)
-          c.before.before.before.before.before.before.take.ensures.0
-          c.before.before.before.before.before.before.take.ensures.2) c.enum_told.given.1,
-      c.before.before.before.before.before.before.take.ensures.1,
+      not_full c.args.count
+          c.requires.0
+          (took c.requires.0.base
+          (not-asks c.args.count
+          c.requires.0)
+          c.take.ensures.0
+          c.take.ensures.2) c.in_default.is,
+      c.take.ensures.1,
     ))
-    (λ c. c.before.before.before.before.before.before.before.before.take.auto.0)
-    (λ c. c.before.before.before.before.before.before.before.before.take.auto.1.0)
+    (λ c. c.take.auto.words)
+    (λ c. c.take.auto.counts)
     (λ c. let s =
-    took c.before.before.before.before.before.before.before.before.before.before.before.before.before.before.before.requires.0.base
+    took c.requires.0.base
     (not-asks
-    c.before.before.before.before.before.before.before.before.before.before.before.before.before.before.before.args.count
-    c.before.before.before.before.before.before.before.before.before.before.before.before.before.before.before.requires.0)
-    c.before.before.before.before.before.before.before.before.take.ensures.0
-    c.before.before.before.before.before.before.before.before.take.ensures.2 in
+    c.args.count
+    c.requires.0)
+    c.take.ensures.0
+    c.take.ensures.2 in
     let z =
     and-all
-    c.before.before.before.before.before.before.before.before.before.before.before.before.before.before.before.args.count _ c.before.before.b.given.1 c.before.before.before.before.before.before.before.before.take.ensures
+    c.args.count _ c.in-At.is c.take.ensures
     (in-asks
-    c.before.before.before.before.before.before.before.before.before.before.before.before.before.before.before.args.count
-    c.before.before.before.before.before.before.before.before.before.before.before.before.before.before.before.requires.0
-    s c.before.before.b.given.1) c.if1.true in (
+    c.args.count
+    c.requires.0
+    s c.in-At.is) c.if-valid-eq-EVERYTHING.true in (
       complement-ends
-          c.before.before.before.before.before.before.before.before.before.before.before.before.before.before.before.args.count
-          c.before.before.before.before.before.before.before.before.before.before.before.before.before.before.before.requires.0
-          s c.before.before.b.given.1
+          c.args.count
+          c.requires.0
+          s c.in-At.is
           (took (in-base
-          c.before.before.before.before.before.before.before.before.before.before.before.before.before.before.before.args.count
-          c.before.before.before.before.before.before.before.before.before.before.before.before.before.before.before.requires.0
-          s c.before.before.b.given.1)
+          c.args.count
+          c.requires.0
+          s c.in-At.is)
           (in-asks
-          c.before.before.before.before.before.before.before.before.before.before.before.before.before.before.before.args.count
-          c.before.before.before.before.before.before.before.before.before.before.before.before.before.before.before.requires.0
-          s c.before.before.b.given.1) z.0 z.2),
-      c.before.before.before.before.before.before.before.before.take.ensures.1,
+          c.args.count
+          c.requires.0
+          s c.in-At.is) z.0 z.2),
+      c.take.ensures.1,
     ))
     (λ c κs. let s =
-    took c.before.before.before.before.before.before.before.before.before.before.before.before.before.before.before.before.before.requires.0.base
+    took c.requires.0.base
     (not-asks
-    c.before.before.before.before.before.before.before.before.before.before.before.before.before.before.before.before.before.args.count
-    c.before.before.before.before.before.before.before.before.before.before.before.before.before.before.before.before.before.requires.0) c.before.before.before.before.before.before.before.before.before.before.take.ensures.0
-    c.before.before.before.before.before.before.before.before.before.before.take.ensures.2 in (
+    c.args.count
+    c.requires.0) c.take.ensures.0
+    c.take.ensures.2 in (
       in-asks
-          c.before.before.before.before.before.before.before.before.before.before.before.before.before.before.before.before.before.args.count
-          c.before.before.before.before.before.before.before.before.before.before.before.before.before.before.before.before.before.requires.0 s c.before.before.before.before.b.given.1,
-      c.before.before.before.before.before.before.before.before.before.before.take.ensures.1,
+          c.args.count
+          c.requires.0 s c.in-At.is,
+      c.take.ensures.1,
     ))
-    (λ c. c.before.before.before.before.take2.auto.0
-    ∙ c.before.before.before.before.before.before.before.before.before.before.before.before.before.before.before.take.auto.0)
-    (λ c. c.before.before.before.before.take2.auto.1.0
-    ∙ c.before.before.before.before.before.before.before.before.before.before.before.before.before.before.before.take.auto.1.0)
+    (λ c. c.take-2.auto.words
+    ∙ c.take.auto.words)
+    (λ c. c.take-2.auto.counts
+    ∙ c.take.auto.counts)
     (λ c. let s =
-    took c.before.before.before.before.before.before.before.before.before.before.before.before.before.before.before.before.before.before.before.before.before.before.requires.0.base
+    took c.requires.0.base
     (not-asks
-    c.before.before.before.before.before.before.before.before.before.before.before.before.before.before.before.before.before.before.before.before.before.before.args.count
-    c.before.before.before.before.before.before.before.before.before.before.before.before.before.before.before.before.before.before.before.before.before.before.requires.0)
-    c.before.before.before.before.before.before.before.before.before.before.before.before.before.before.before.take.ensures.0
-    c.before.before.before.before.before.before.before.before.before.before.before.before.before.before.before.take.ensures.2 in (
+    c.args.count
+    c.requires.0)
+    c.take.ensures.0
+    c.take.ensures.2 in (
       complement-ends
-          c.before.before.before.before.before.before.before.before.before.before.before.before.before.before.before.before.before.before.before.before.before.before.args.count
-          c.before.before.before.before.before.before.before.before.before.before.before.before.before.before.before.before.before.before.before.before.before.before.requires.0 s
-          c.before.before.before.before.before.before.before.before.before.b.given.1
+          c.args.count
+          c.requires.0 s
+          c.in-At.is
           (took (in-base
-          c.before.before.before.before.before.before.before.before.before.before.before.before.before.before.before.before.before.before.before.before.before.before.args.count
-          c.before.before.before.before.before.before.before.before.before.before.before.before.before.before.before.before.before.before.before.before.before.before.requires.0 s
-          c.before.before.before.before.before.before.before.before.before.b.given.1)
+          c.args.count
+          c.requires.0 s
+          c.in-At.is)
           (in-asks
-          c.before.before.before.before.before.before.before.before.before.before.before.before.before.before.before.before.before.before.before.before.before.before.args.count
-          c.before.before.before.before.before.before.before.before.before.before.before.before.before.before.before.before.before.before.before.before.before.before.requires.0 s
-          c.before.before.before.before.before.before.before.before.before.b.given.1)
-          c.before.before.before.before.take2.ensures.0 c.before.before.before.before.take2.ensures.2),
-      c.before.before.before.before.take2.ensures.1,
+          c.args.count
+          c.requires.0 s
+          c.in-At.is)
+          c.take-2.ensures.0 c.take-2.ensures.2),
+      c.take-2.ensures.1,
     )))

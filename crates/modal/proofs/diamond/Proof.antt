@@ -15,117 +15,117 @@ pub diamond_spec : {M : Type 1} → statement M
 diamond_spec =
     tie.close
     (tie.spec
-    (λ c. omega (arith, base-bits c.before.before.before.before.requires.0.base))
+    (λ c. omega (arith, base-bits c.requires.0.base))
     (λ c κs. (
-      shift-asks c.before.before.before.before.before.before.args.count
-          c.before.before.before.before.before.before.requires.0,
-      c.before.before.before.before.before.before.requires.1,
+      shift-asks c.args.count
+          c.requires.0,
+      c.requires.1,
     ))
     (λ c. search rules)
     (λ c. search rules)
-    (λ c. c.before.before.before.before.before.before.take.auto.0)
-    (λ c. c.before.before.before.before.before.before.take.auto.1.0)
+    (λ c. c.take.auto.words)
+    (λ c. c.take.auto.counts)
     (λ c. (
       shift-full
-          c.before.before.before.before.before.before.before.before.before.before.before.before.before.args.count
-          c.before.before.before.before.before.before.before.before.before.before.before.before.before.requires.0
-          (took c.before.before.before.before.before.before.before.before.before.before.before.before.before.requires.0.base
+          c.args.count
+          c.requires.0
+          (took c.requires.0.base
           (shift-asks
-          c.before.before.before.before.before.before.before.before.before.before.before.before.before.args.count
-          c.before.before.before.before.before.before.before.before.before.before.before.before.before.requires.0)
-          c.before.before.before.before.before.before.take.ensures.0
-          c.before.before.before.before.before.before.take.ensures.2) c.enum_told.given.1,
-      c.before.before.before.before.before.before.take.ensures.1,
+          c.args.count
+          c.requires.0)
+          c.take.ensures.0
+          c.take.ensures.2) c.in_default.is,
+      c.take.ensures.1,
     ))
     (λ c κs. let s =
-    took c.before.before.before.before.before.before.before.before.before.before.before.before.before.before.before.before.requires.0.base
+    took c.requires.0.base
     (shift-asks
-    c.before.before.before.before.before.before.before.before.before.before.before.before.before.before.before.before.args.count
-    c.before.before.before.before.before.before.before.before.before.before.before.before.before.before.before.before.requires.0) c.before.before.before.before.before.before.before.before.before.take.ensures.0
-    c.before.before.before.before.before.before.before.before.before.take.ensures.2 in (
+    c.args.count
+    c.requires.0) c.take.ensures.0
+    c.take.ensures.2 in (
       and-asks
-          c.before.before.before.before.before.before.before.before.before.before.before.before.before.before.before.before.args.count
-          c.before.before.before.before.before.before.before.before.before.before.before.before.before.before.before.before.requires.0 s c.before.before.before.x.given.1,
-      c.before.before.before.before.before.before.before.before.before.take.ensures.1,
+          c.args.count
+          c.requires.0 s c.in-At.is,
+      c.take.ensures.1,
     ))
     (λ c. search rules)
     (λ c. search rules)
-    (λ c. c.before.before.before.before.before.before.take2.auto.0
-    ∙ c.before.before.before.before.before.before.before.before.before.before.before.before.before.before.before.before.take.auto.0)
-    (λ c. c.before.before.before.before.before.before.take2.auto.1.0
-    ∙ c.before.before.before.before.before.before.before.before.before.before.before.before.before.before.before.before.take.auto.1.0)
+    (λ c. c.take-2.auto.words
+    ∙ c.take.auto.words)
+    (λ c. c.take-2.auto.counts
+    ∙ c.take.auto.counts)
     (λ c. let s =
-    took c.before.before.before.before.before.before.before.before.before.before.before.before.before.before.before.before.before.before.before.before.before.before.before.requires.0.base
+    took c.requires.0.base
     (shift-asks
-    c.before.before.before.before.before.before.before.before.before.before.before.before.before.before.before.before.before.before.before.before.before.before.before.args.count
-    c.before.before.before.before.before.before.before.before.before.before.before.before.before.before.before.before.before.before.before.before.before.before.before.requires.0)
-    c.before.before.before.before.before.before.before.before.before.before.before.before.before.before.before.before.take.ensures.0
-    c.before.before.before.before.before.before.before.before.before.before.before.before.before.before.before.before.take.ensures.2 in (
+    c.args.count
+    c.requires.0)
+    c.take.ensures.0
+    c.take.ensures.2 in (
       and-full
-          c.before.before.before.before.before.before.before.before.before.before.before.before.before.before.before.before.before.before.before.before.before.before.before.args.count
-          c.before.before.before.before.before.before.before.before.before.before.before.before.before.before.before.before.before.before.before.before.before.before.before.requires.0 s
-          c.before.before.before.before.before.before.before.before.before.before.x.given.1
+          c.args.count
+          c.requires.0 s
+          c.in-At.is
           (took (and-base
-          c.before.before.before.before.before.before.before.before.before.before.before.before.before.before.before.before.before.before.before.before.before.before.before.args.count
-          c.before.before.before.before.before.before.before.before.before.before.before.before.before.before.before.before.before.before.before.before.before.before.before.requires.0 s
-          c.before.before.before.before.before.before.before.before.before.before.x.given.1)
+          c.args.count
+          c.requires.0 s
+          c.in-At.is)
           (and-asks
-          c.before.before.before.before.before.before.before.before.before.before.before.before.before.before.before.before.before.before.before.before.before.before.before.args.count
-          c.before.before.before.before.before.before.before.before.before.before.before.before.before.before.before.before.before.before.before.before.before.before.before.requires.0 s
-          c.before.before.before.before.before.before.before.before.before.before.x.given.1)
-          c.before.before.before.before.before.before.take2.ensures.0
-          c.before.before.before.before.before.before.take2.ensures.2) c.enum-told2.given.1,
-      c.before.before.before.before.before.before.take2.ensures.1,
+          c.args.count
+          c.requires.0 s
+          c.in-At.is)
+          c.take-2.ensures.0
+          c.take-2.ensures.2) c.in_default-take.is,
+      c.take-2.ensures.1,
     ))
     (λ c κs. let s =
-    took c.before.before.before.before.before.before.before.before.before.before.before.before.before.before.before.before.before.before.before.before.before.before.before.before.before.before.requires.0.base
+    took c.requires.0.base
     (shift-asks
-    c.before.before.before.before.before.before.before.before.before.before.before.before.before.before.before.before.before.before.before.before.before.before.before.before.before.before.args.count
-    c.before.before.before.before.before.before.before.before.before.before.before.before.before.before.before.before.before.before.before.before.before.before.before.before.before.before.requires.0)
-    c.before.before.before.before.before.before.before.before.before.before.before.before.before.before.before.before.before.before.before.take.ensures.0
-    c.before.before.before.before.before.before.before.before.before.before.before.before.before.before.before.before.before.before.before.take.ensures.2 in (
+    c.args.count
+    c.requires.0)
+    c.take.ensures.0
+    c.take.ensures.2 in (
       loop-asks
-          c.before.before.before.before.before.before.before.before.before.before.before.before.before.before.before.before.before.before.before.before.before.before.before.before.before.before.args.count
-          c.before.before.before.before.before.before.before.before.before.before.before.before.before.before.before.before.before.before.before.before.before.before.before.before.before.before.requires.0 s
-          c.before.before.before.before.before.before.before.before.before.before.before.before.before.x.given.1
+          c.args.count
+          c.requires.0 s
+          c.in-At.is
           (took (and-base
-          c.before.before.before.before.before.before.before.before.before.before.before.before.before.before.before.before.before.before.before.before.before.before.before.before.before.before.args.count
-          c.before.before.before.before.before.before.before.before.before.before.before.before.before.before.before.before.before.before.before.before.before.before.before.before.before.before.requires.0 s
-          c.before.before.before.before.before.before.before.before.before.before.before.before.before.x.given.1)
+          c.args.count
+          c.requires.0 s
+          c.in-At.is)
           (and-asks
-          c.before.before.before.before.before.before.before.before.before.before.before.before.before.before.before.before.before.before.before.before.before.before.before.before.before.before.args.count
-          c.before.before.before.before.before.before.before.before.before.before.before.before.before.before.before.before.before.before.before.before.before.before.before.before.before.before.requires.0 s
-          c.before.before.before.before.before.before.before.before.before.before.before.before.before.x.given.1)
-          c.before.before.before.before.before.before.before.before.before.take2.ensures.0
-          c.before.before.before.before.before.before.before.before.before.take2.ensures.2)
-          c.before.before.before.c.given.1,
-      c.before.before.before.before.before.before.before.before.before.take2.ensures.1,
+          c.args.count
+          c.requires.0 s
+          c.in-At.is)
+          c.take-2.ensures.0
+          c.take-2.ensures.2)
+          c.in-At-take.is,
+      c.take-2.ensures.1,
     ))
-    (λ c. c.before.before.before.before.quantify.auto.0
-    ∙ c.before.before.before.before.before.before.before.before.before.before.before.before.before.before.take2.auto.0
-    ∙ c.before.before.before.before.before.before.before.before.before.before.before.before.before.before.before.before.before.before.before.before.before.before.before.before.take.auto.0)
-    (λ c. c.before.before.before.before.quantify.auto.1.0
-    ∙ c.before.before.before.before.before.before.before.before.before.before.before.before.before.before.take2.auto.1.0 ∙ c.before.before.before.before.before.before.before.before.before.before.before.before.before.before.before.before.before.before.before.before.before.before.before.before.take.auto.1.0)
+    (λ c. c.quantify.auto.words
+    ∙ c.take-2.auto.words
+    ∙ c.take.auto.words)
+    (λ c. c.quantify.auto.counts
+    ∙ c.take-2.auto.counts ∙ c.take.auto.counts)
     (λ c. let s =
-    took c.before.before.before.before.before.before.before.before.before.before.before.before.before.before.before.before.before.before.before.before.before.before.before.before.before.before.before.before.before.before.before.requires.0.base
+    took c.requires.0.base
     (shift-asks
-    c.before.before.before.before.before.before.before.before.before.before.before.before.before.before.before.before.before.before.before.before.before.before.before.before.before.before.before.before.before.before.before.args.count
-    c.before.before.before.before.before.before.before.before.before.before.before.before.before.before.before.before.before.before.before.before.before.before.before.before.before.before.before.before.before.before.before.requires.0)
-    c.before.before.before.before.before.before.before.before.before.before.before.before.before.before.before.before.before.before.before.before.before.before.before.before.take.ensures.0
-    c.before.before.before.before.before.before.before.before.before.before.before.before.before.before.before.before.before.before.before.before.before.before.before.before.take.ensures.2 in (
+    c.args.count
+    c.requires.0)
+    c.take.ensures.0
+    c.take.ensures.2 in (
       diamond-ends
-          c.before.before.before.before.before.before.before.before.before.before.before.before.before.before.before.before.before.before.before.before.before.before.before.before.before.before.before.before.before.before.before.args.count
-          c.before.before.before.before.before.before.before.before.before.before.before.before.before.before.before.before.before.before.before.before.before.before.before.before.before.before.before.before.before.before.before.requires.0 s
-          c.before.before.before.before.before.before.before.before.before.before.before.before.before.before.before.before.before.before.x.given.1
+          c.args.count
+          c.requires.0 s
+          c.in-At.is
           (took (and-base
-          c.before.before.before.before.before.before.before.before.before.before.before.before.before.before.before.before.before.before.before.before.before.before.before.before.before.before.before.before.before.before.before.args.count
-          c.before.before.before.before.before.before.before.before.before.before.before.before.before.before.before.before.before.before.before.before.before.before.before.before.before.before.before.before.before.before.before.requires.0 s
-          c.before.before.before.before.before.before.before.before.before.before.before.before.before.before.before.before.before.before.x.given.1)
+          c.args.count
+          c.requires.0 s
+          c.in-At.is)
           (and-asks
-          c.before.before.before.before.before.before.before.before.before.before.before.before.before.before.before.before.before.before.before.before.before.before.before.before.before.before.before.before.before.before.before.args.count
-          c.before.before.before.before.before.before.before.before.before.before.before.before.before.before.before.before.before.before.before.before.before.before.before.before.before.before.before.before.before.before.before.requires.0 s
-          c.before.before.before.before.before.before.before.before.before.before.before.before.before.before.before.before.before.before.x.given.1)
-          c.before.before.before.before.before.before.before.before.before.before.before.before.before.before.take2.ensures.0 c.before.before.before.before.before.before.before.before.before.before.before.before.before.before.take2.ensures.2) c.before.before.before.before.before.before.before.before.c.given.1
-          c.before.before.before.before.quantify.ensures.0,
-      c.before.before.before.before.quantify.ensures.1,
+          c.args.count
+          c.requires.0 s
+          c.in-At.is)
+          c.take-2.ensures.0 c.take-2.ensures.2) c.in-At-take.is
+          c.quantify.ensures.0,
+      c.quantify.ensures.1,
     )))

@@ -12,14 +12,14 @@ use Rattle.modal.proofs.Left.{stands-ends}
 use Rattle.modal.proofs.quantify.Statement.{statement}
 use Rattle.modal.proofs.quantify.Tie as tie
 
-abbrev invariant_loop : tie.invariant_loop
+abbrev invariant_loop : tie.invariant-loop-left
 invariant_loop words₀ counts₀ limits roots a levels c₀ total₀ left₀ words counts c total left =
     (length words ≡ length words₀) × (length counts ≡ length counts₀)
     × Stands limits.bits limits.rows limits.limit (view limits.rows words₀) (view limits.rows words) roots a total₀ left c
     total
     × CountsOf (view limits.rows words) counts
 
-abbrev decreases_loop : tie.decreases_loop
+abbrev decreases_loop : tie.decreases-loop-left
 decreases_loop words₀ counts₀ limits roots a levels c₀ total₀ left₀ words counts c total left = left
 
 pub quantify_spec : {M : Type 1} → statement M
@@ -28,87 +28,87 @@ quantify_spec =
     (tie.spec
     invariant_loop
     decreases_loop
-    (λ c. omega (arith, base-bits c.before.before.before.before.requires.0.base))
-    (λ c. (refl, refl, stands-begins c.before.before.before.before.requires.0 _, c.before.before.before.before.requires.1))
+    (λ c. omega (arith, base-bits c.requires.0.base))
+    (λ c. (refl, refl, stands-begins c.requires.0 _, c.requires.1))
     (λ c κs. (
-      stands-rest c.before.before.before.before.before.before.before.before.requires.0 c.before.before.before.loop.invariant.2,
-      c.before.before.before.loop.invariant.3,
+      stands-rest c.requires.0 c.loop-left.invariant.2,
+      c.loop-left.invariant.3,
     ))
     (λ c. search rules)
-    (λ c. c.before.before.before.before.before.before.before.rest.auto.0
-    ∙ c.before.before.before.before.before.before.before.before.before.before.before.loop.invariant.0)
-    (λ c. c.before.before.before.before.before.before.before.rest.auto.1.0
-    ∙ c.before.before.before.before.before.before.before.before.before.before.before.loop.invariant.1)
+    (λ c. c.rest-found.auto.words
+    ∙ c.loop-left.invariant.0)
+    (λ c. c.rest-found.auto.counts
+    ∙ c.loop-left.invariant.1)
     (λ c. (
       stands-found
-          c.before.before.before.before.before.before.before.before.before.before.before.before.before.before.before.before.requires.0 c.before.before.before.before.before.before.before.before.before.before.before.loop.invariant.2
-          c.before.before.before.before.before.before.before.rest.ensures.0 c.before.found.given.1,
-      c.before.before.before.before.before.before.before.rest.ensures.1,
+          c.requires.0 c.loop-left.invariant.2
+          c.rest-found.ensures.0 c.in-At.is,
+      c.rest-found.ensures.1,
     ))
     (λ c. search rules)
     (λ c. search rules)
     (λ c. omega (
       arith,
       base-bits
-          c.before.before.before.before.before.before.before.before.before.before.before.before.before.before.before.requires.0.base,
-      c.before.before.before.before.before.before.before.before.before.before.loop.invariant.2.fewer,
+          c.requires.0.base,
+      c.loop-left.invariant.2.fewer,
     ))
     (λ c. omega (
       arith,
       base-bits
-          c.before.before.before.before.before.before.before.before.before.before.before.before.before.before.before.requires.0.base,
-      c.before.before.before.before.before.before.before.before.before.before.loop.invariant.2.fewer,
+          c.requires.0.base,
+      c.loop-left.invariant.2.fewer,
     ))
     (λ c κs. (
       stands-asks
-          c.before.before.before.before.before.before.before.before.before.before.before.before.before.before.before.before.before.requires.0
+          c.requires.0
           (stands-grown
-          c.before.before.before.before.before.before.before.before.before.before.before.before.before.before.before.before.before.requires.0 c.before.before.before.before.before.before.before.before.before.before.before.before.loop.invariant.2
-          c.before.before.before.before.before.before.before.before.rest.ensures.0.grown)
-          c.before.before.before.before.before.before.before.before.before.before.before.loop-test.true,
-      c.before.before.before.before.before.before.before.before.rest.ensures.1,
+          c.requires.0 c.loop-left.invariant.2
+          c.rest-found.ensures.0.grown)
+          c.loop-left-test.true,
+      c.rest-found.ensures.1,
     ))
     (λ c. search rules)
     (λ c. search rules)
-    (λ c. c.before.before.before.before.before.before.take.auto.0
-    ∙ c.before.before.before.before.before.before.before.before.before.before.before.before.before.before.before.rest.auto.0
-    ∙ c.before.before.before.before.before.before.before.before.before.before.before.before.before.before.before.before.before.before.before.loop.invariant.0)
-    (λ c. c.before.before.before.before.before.before.take.auto.1.0
-    ∙ c.before.before.before.before.before.before.before.before.before.before.before.before.before.before.before.rest.auto.1.0
-    ∙ c.before.before.before.before.before.before.before.before.before.before.before.before.before.before.before.before.before.before.before.loop.invariant.1)
+    (λ c. c.take.auto.words
+    ∙ c.rest-found.auto.words
+    ∙ c.loop-left.invariant.0)
+    (λ c. c.take.auto.counts
+    ∙ c.rest-found.auto.counts
+    ∙ c.loop-left.invariant.1)
     (λ c. (
       stands-full
-          c.before.before.before.before.before.before.before.before.before.before.before.before.before.before.before.before.before.before.before.before.before.before.before.before.requires.0
+          c.requires.0
           (stands-grown
-          c.before.before.before.before.before.before.before.before.before.before.before.before.before.before.before.before.before.before.before.before.before.before.before.before.requires.0
-          c.before.before.before.before.before.before.before.before.before.before.before.before.before.before.before.before.before.before.before.loop.invariant.2
-          c.before.before.before.before.before.before.before.before.before.before.before.before.before.before.before.rest.ensures.0.grown)
-          c.before.before.before.before.before.before.before.before.before.before.before.before.before.before.before.before.before.before.loop-test.true c.before.before.before.before.before.before.take.ensures.0
-          c.before.before.before.before.before.before.take.ensures.2 c.enum-told2.given.1,
-      c.before.before.before.before.before.before.take.ensures.1,
+          c.requires.0
+          c.loop-left.invariant.2
+          c.rest-found.ensures.0.grown)
+          c.loop-left-test.true c.take.ensures.0
+          c.take.ensures.2 c.in_default-take.is,
+      c.take.ensures.1,
     ))
     (λ c. search rules)
     (λ c. (
-      c.before.before.before.before.before.before.before.take.auto.0
-          ∙ c.before.before.before.before.before.before.before.before.before.before.before.before.before.before.before.before.rest.auto.0
-          ∙ c.before.before.before.before.before.before.before.before.before.before.before.before.before.before.before.before.before.before.before.before.loop.invariant.0,
-      c.before.before.before.before.before.before.before.take.auto.1.0
-          ∙ c.before.before.before.before.before.before.before.before.before.before.before.before.before.before.before.before.rest.auto.1.0
-          ∙ c.before.before.before.before.before.before.before.before.before.before.before.before.before.before.before.before.before.before.before.before.loop.invariant.1,
+      c.take.auto.words
+          ∙ c.rest-found.auto.words
+          ∙ c.loop-left.invariant.0,
+      c.take.auto.counts
+          ∙ c.rest-found.auto.counts
+          ∙ c.loop-left.invariant.1,
       stands-turns
-          c.before.before.before.before.before.before.before.before.before.before.before.before.before.before.before.before.before.before.before.before.before.before.before.before.before.requires.0
+          c.requires.0
           (stands-grown
-          c.before.before.before.before.before.before.before.before.before.before.before.before.before.before.before.before.before.before.before.before.before.before.before.before.before.requires.0
-          c.before.before.before.before.before.before.before.before.before.before.before.before.before.before.before.before.before.before.before.before.loop.invariant.2
-          c.before.before.before.before.before.before.before.before.before.before.before.before.before.before.before.before.rest.ensures.0.grown)
-          c.before.before.before.before.before.before.before.before.before.before.before.before.before.before.before.before.before.before.before.loop-test.true c.before.before.before.before.before.before.before.take.ensures.0
-          c.before.before.before.before.before.before.before.take.ensures.2 c.before.d.given.1,
-      c.before.before.before.before.before.before.before.take.ensures.1,
+          c.requires.0
+          c.loop-left.invariant.2
+          c.rest-found.ensures.0.grown)
+          c.loop-left-test.true c.take.ensures.0
+          c.take.ensures.2 c.in-At-take.is,
+      c.take.ensures.1,
     ))
-    (λ c. c.before.loop.invariant.0)
-    (λ c. c.before.loop.invariant.1)
+    (λ c. c.loop-left.invariant.0)
+    (λ c. c.loop-left.invariant.1)
     (λ c. (
-      stands-ends c.before.before.before.before.before.before.requires.0 c.before.loop.invariant.2
-          (omega (arith, c.loop-test.false)),
-      c.before.loop.invariant.3,
+      stands-ends c.requires.0 c.loop-left.invariant.2
+          (omega (arith, c.loop-left-test.false)),
+      c.loop-left.invariant.3,
     )))

@@ -17,76 +17,76 @@ before_spec =
     tie.close
     (tie.spec
     (λ c. search rules)
-    (λ c κs. (dia_asks c.before.before.before.before.before.requires.0, c.before.before.before.before.before.requires.1))
+    (λ c κs. (dia_asks c.requires.0, c.requires.1))
     (λ c. search rules)
     (λ c. search rules)
-    (λ c. c.before.before.before.before.before.before.diamond.auto.0)
-    (λ c. c.before.before.before.before.before.before.diamond.auto.1.0)
+    (λ c. c.diamond.auto.words)
+    (λ c. c.diamond.auto.counts)
     (λ c. (
-      dia_full c.before.before.before.before.before.before.before.before.before.before.before.before.requires.0
-          c.before.before.before.before.before.before.diamond.ensures.0
-          c.before.before.before.before.before.before.before.before.before.before.before.before.args.joint.mask
-          c.before.before.before.before.before.before.before.before.before.before.before.before.args.joint.value
-          c.enum_told.given.1,
-      c.before.before.before.before.before.before.diamond.ensures.1,
+      dia_full c.requires.0
+          c.diamond.ensures.0
+          c.args.joint.mask
+          c.args.joint.value
+          c.in_default.is,
+      c.diamond.ensures.1,
     ))
     (λ c. search rules)
     (λ c κs. (
       fit-asks
-          c.before.before.before.before.before.before.before.before.before.before.before.before.before.before.before.before.requires.0
-          c.before.before.before.before.before.before.before.before.before.before.diamond.ensures.0
-          c.before.before.before.before.d.given.1,
-      c.before.before.before.before.before.before.before.before.before.before.diamond.ensures.1,
+          c.requires.0
+          c.diamond.ensures.0
+          c.in-At.is,
+      c.diamond.ensures.1,
     ))
     (λ c. search rules)
     (λ c. search rules)
-    (λ c. c.before.before.before.before.before.before.fitting.auto.0
-    ∙ c.before.before.before.before.before.before.before.before.before.before.before.before.before.before.before.before.before.diamond.auto.0)
-    (λ c. c.before.before.before.before.before.before.fitting.auto.1.0
-    ∙ c.before.before.before.before.before.before.before.before.before.before.before.before.before.before.before.before.before.diamond.auto.1.0)
+    (λ c. c.fitting.auto.words
+    ∙ c.diamond.auto.words)
+    (λ c. c.fitting.auto.counts
+    ∙ c.diamond.auto.counts)
     (λ c. (
       fit-full
-          c.before.before.before.before.before.before.before.before.before.before.before.before.before.before.before.before.before.before.before.before.before.before.before.requires.0
-          c.before.before.before.before.before.before.before.before.before.before.before.before.before.before.before.before.before.diamond.ensures.0
-          c.before.before.before.before.before.before.before.before.before.before.before.d.given.1
-          c.before.before.before.before.before.before.before.before.before.before.before.before.before.before.before.before.before.before.before.before.before.before.before.args.joint.mask
-          c.before.before.before.before.before.before.before.before.before.before.before.before.before.before.before.before.before.before.before.before.before.before.before.args.joint.value
-          c.before.before.before.before.before.before.fitting.ensures.0
-          c.enum-told2.given.1,
-      c.before.before.before.before.before.before.fitting.ensures.1,
+          c.requires.0
+          c.diamond.ensures.0
+          c.in-At.is
+          c.args.joint.mask
+          c.args.joint.value
+          c.fitting.ensures.0
+          c.in_default-fitting.is,
+      c.fitting.ensures.1,
     ))
     (λ c. search rules)
     (λ c κs. (
       base-bits
-          c.before.before.before.before.before.before.before.before.before.before.before.before.before.before.before.before.before.before.before.before.before.before.before.before.before.before.before.requires.0.base,
+          c.requires.0.base,
       (
         last-asks
-            c.before.before.before.before.before.before.before.before.before.before.before.before.before.before.before.before.before.before.before.before.before.before.before.before.before.before.before.requires.0
-            c.before.before.before.before.before.before.before.before.before.before.before.before.before.before.before.before.before.before.before.before.before.diamond.ensures.0
-            c.before.before.before.before.before.before.before.before.before.before.before.before.before.before.before.d.given.1
-            c.before.before.before.before.before.before.before.before.before.before.before.before.before.before.before.before.before.before.before.before.before.before.before.before.before.before.before.args.joint.mask
-            c.before.before.before.before.before.before.before.before.before.before.before.before.before.before.before.before.before.before.before.before.before.before.before.before.before.before.before.args.joint.value
-            c.before.before.before.before.before.before.before.before.before.before.fitting.ensures.0
-            c.before.before.before.before.f.given.1,
-        c.before.before.before.before.before.before.before.before.before.before.fitting.ensures.1,
+            c.requires.0
+            c.diamond.ensures.0
+            c.in-At.is
+            c.args.joint.mask
+            c.args.joint.value
+            c.fitting.ensures.0
+            c.in-At-fitting.is,
+        c.fitting.ensures.1,
       ),
     ))
-    (λ c. c.before.before.before.before.take_step.auto.0
-    ∙ c.before.before.before.before.before.before.before.before.before.before.before.before.before.before.before.fitting.auto.0
-    ∙ c.before.before.before.before.before.before.before.before.before.before.before.before.before.before.before.before.before.before.before.before.before.before.before.before.before.before.diamond.auto.0)
-    (λ c. c.before.before.before.before.take_step.auto.1.0
-    ∙ c.before.before.before.before.before.before.before.before.before.before.before.before.before.before.before.fitting.auto.1.0
-    ∙ c.before.before.before.before.before.before.before.before.before.before.before.before.before.before.before.before.before.before.before.before.before.before.before.before.before.before.diamond.auto.1.0)
+    (λ c. c.take_step.auto.words
+    ∙ c.fitting.auto.words
+    ∙ c.diamond.auto.words)
+    (λ c. c.take_step.auto.counts
+    ∙ c.fitting.auto.counts
+    ∙ c.diamond.auto.counts)
     (λ c.
-    let p = c.before.before.before.before.before.before.before.before.before.before.before.before.before.before.before.before.before.before.before.before.before.before.before.before.before.before.before.before.before.before.before.before.requires.0 in
-    let g = c.before.before.before.before.before.before.before.before.before.before.before.before.before.before.before.before.before.before.before.before.before.before.before.before.before.before.diamond.ensures.0 in
-    let e = c.before.before.before.before.before.before.before.before.before.before.before.before.before.before.before.before.before.before.before.before.d.given.1 in
-    let m = c.before.before.before.before.before.before.before.before.before.before.before.before.before.before.before.before.before.before.before.before.before.before.before.before.before.before.before.before.before.before.before.before.args.joint.mask in
-    let v = c.before.before.before.before.before.before.before.before.before.before.before.before.before.before.before.before.before.before.before.before.before.before.before.before.before.before.before.before.before.before.before.before.args.joint.value in
-    let h = c.before.before.before.before.before.before.before.before.before.before.before.before.before.before.before.fitting.ensures.0 in
-    let i = c.before.before.before.before.before.before.before.before.before.f.given.1 in (
+    let p = c.requires.0 in
+    let g = c.diamond.ensures.0 in
+    let e = c.in-At.is in
+    let m = c.args.joint.mask in
+    let v = c.args.joint.value in
+    let h = c.fitting.ensures.0 in
+    let i = c.in-At-fitting.is in (
       before-ends p g e m v h i (took
-          (last-base p g e m v h i) (last-asks p g e m v h i) c.before.before.before.before.take_step.ensures.0
-          c.before.before.before.before.take_step.ensures.2),
-      c.before.before.before.before.take_step.ensures.1,
+          (last-base p g e m v h i) (last-asks p g e m v h i) c.take_step.ensures.0
+          c.take_step.ensures.2),
+      c.take_step.ensures.1,
     )))

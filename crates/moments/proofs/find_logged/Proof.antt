@@ -19,40 +19,40 @@ find_logged_spec =
     tie.close
     (tie.spec
     (λ c κs. (
-      find-asks c.before.before.before.before.before.before.before.requires.0,
-      c.before.before.before.before.before.before.before.requires.1,
+      find-asks c.requires.0,
+      c.requires.1,
     ))
     (λ c. search rules)
     (λ c. search rules)
-    (λ c. c.before.before.before.before.before.before.make-set.auto.0)
-    (λ c. c.before.before.before.before.before.before.make-set.auto.1.0)
-    (λ c. find-full c.before.before.before.before.before.before.before.before.before.before.before.before.before.before.requires.0 c.before.before.before.before.before.before.make-set.ensures.0 c.enum_told.given.1)
+    (λ c. c.make_set.auto.words)
+    (λ c. c.make_set.auto.counts)
+    (λ c. find-full c.requires.0 c.make_set.ensures.0 c.in_default.is)
     (λ c. omega (
       arith,
-      base-bits c.before.before.before.before.before.before.before.before.before.before.before.before.before.before.before.before.requires.0.start.base,
+      base-bits c.requires.0.start.base,
     ))
-    (λ c κs. find-walks c.before.before.before.before.before.before.before.before.before.before.before.before.before.before.before.before.before.requires.0 c.before.before.before.before.before.before.before.before.before.make-set.ensures.0 c.before.before.before.x.given.1)
-    (λ c. c.before.before.before.before.before.before.before.before.before.before.before.make-set.auto.0)
-    (λ c. c.before.before.before.before.before.before.before.before.before.before.before.make-set.auto.1.0)
-    (λ c. let e = power_fits c.before.before.before.before.before.before.before.before.before.before.before.before.before.before.before.before.before.before.before.args.limits.bits (base-bits c.before.before.before.before.before.before.before.before.before.before.before.before.before.before.before.before.before.before.before.requires.0.start.base) in
-    find_none c.before.before.before.before.before.before.before.before.before.before.before.before.before.before.before.before.before.before.before.requires.0 c.before.before.before.before.before.before.before.before.before.before.before.make-set.ensures.0 c.before.before.before.before.before.x.given.1 c.before.least-common.ensures (omega (
+    (λ c κs. find-walks c.requires.0 c.make_set.ensures.0 c.in-At.is)
+    (λ c. c.make_set.auto.words)
+    (λ c. c.make_set.auto.counts)
+    (λ c. let e = power_fits c.args.limits.bits (base-bits c.requires.0.start.base) in
+    find_none c.requires.0 c.make_set.ensures.0 c.in-At.is c.least_common-s.ensures (omega (
       arith,
       e,
-      c.if1.true,
+      c.if-states-s.true,
     )))
-    (λ c. c.before.before.before.before.before.before.before.before.before.before.before.before.make-set.auto.0)
-    (λ c. c.before.before.before.before.before.before.before.before.before.before.before.before.make-set.auto.1.0)
-    (λ c. let e = power_fits c.before.before.before.before.before.before.before.before.before.before.before.before.before.before.before.before.before.before.before.before.args.limits.bits (base-bits c.before.before.before.before.before.before.before.before.before.before.before.before.before.before.before.before.before.before.before.before.requires.0.start.base) in find-short c.before.before.before.before.before.before.before.before.before.before.before.before.before.before.before.before.before.before.before.before.requires.0 c.before.before.before.before.before.before.before.before.before.before.before.before.make-set.ensures.0 c.before.before.before.before.before.before.x.given.1 c.before.before.least-common.ensures (omega (arith, e, c.before.if1.false)) (omega (arith, c.if2.true)))
-    (λ c. let e = power_fits c.before.before.before.before.before.before.before.before.before.before.before.before.before.before.before.before.before.before.before.before.args.limits.bits (base-bits c.before.before.before.before.before.before.before.before.before.before.before.before.before.before.before.before.before.before.before.before.requires.0.start.base) in let h = find-small c.before.before.before.before.before.before.before.before.before.before.before.before.before.before.before.before.before.before.before.before.requires.0 c.before.before.before.before.before.before.before.before.before.before.before.before.make-set.ensures.0 c.before.before.before.before.before.before.x.given.1 c.before.before.least-common.ensures (omega (arith, e, c.before.if1.false)) in omega (arith, h))
-    (λ c. let l = c.before.before.before.before.before.before.before.before.before.before.before.before.before.before.before.before.before.before.before.before.requires.0.logs.first in omega (arith, l, c.if2.false))
-    (λ c κs. let e = power_fits c.before.before.before.before.before.before.before.before.before.before.before.before.before.before.before.before.before.before.before.before.before.before.before.args.limits.bits (base-bits c.before.before.before.before.before.before.before.before.before.before.before.before.before.before.before.before.before.before.before.before.before.before.before.requires.0.start.base) in (
-      write_asks c.before.before.before.before.before.before.before.before.before.before.before.before.before.before.before.before.before.before.before.before.before.before.before.requires.0 c.before.before.before.before.before.before.before.before.before.before.before.before.before.before.before.make-set.ensures.0 c.before.before.before.before.before.before.before.before.before.x.given.1 c.before.before.before.before.before.least-common.ensures (omega (arith, e, c.before.before.before.before.if1.false))
-          (simp length-set (omega (arith, c.before.before.before.if2.false))),
-      c.before.before.before.before.before.before.before.before.before.before.before.before.before.before.before.make-set.ensures.1,
+    (λ c. c.make_set.auto.words)
+    (λ c. c.make_set.auto.counts)
+    (λ c. let e = power_fits c.args.limits.bits (base-bits c.requires.0.start.base) in find-short c.requires.0 c.make_set.ensures.0 c.in-At.is c.least_common-s.ensures (omega (arith, e, c.if-states-s.false)) (omega (arith, c.if-list-one.true)))
+    (λ c. let e = power_fits c.args.limits.bits (base-bits c.requires.0.start.base) in let h = find-small c.requires.0 c.make_set.ensures.0 c.in-At.is c.least_common-s.ensures (omega (arith, e, c.if-states-s.false)) in omega (arith, h))
+    (λ c. let l = c.requires.0.logs.first in omega (arith, l, c.if-list-one.false))
+    (λ c κs. let e = power_fits c.args.limits.bits (base-bits c.requires.0.start.base) in (
+      write_asks c.requires.0 c.make_set.ensures.0 c.in-At.is c.least_common-s.ensures (omega (arith, e, c.if-states-s.false))
+          (simp length-set (omega (arith, c.if-list-one.false))),
+      c.make_set.ensures.1,
     ))
-    (λ c. c.before.before.before.before.before.before.write-on.auto.0 ∙ c.before.before.before.before.before.before.before.before.before.before.before.before.before.before.before.before.before.before.before.before.before.before.make-set.auto.0)
-    (λ c. c.before.before.before.before.before.before.write-on.auto.1.0 ∙ c.before.before.before.before.before.before.before.before.before.before.before.before.before.before.before.before.before.before.before.before.before.before.make-set.auto.1.0)
-    (λ c. simp length-set at c.before.before.before.before.before.before.write-on.auto.1.1.0)
-    (λ c. let e = power_fits c.before.before.before.before.before.before.before.before.before.before.before.before.before.before.before.before.before.before.before.before.before.before.before.before.before.before.before.before.before.before.args.limits.bits (base-bits c.before.before.before.before.before.before.before.before.before.before.before.before.before.before.before.before.before.before.before.before.before.before.before.before.before.before.before.before.before.before.requires.0.start.base) in find-written c.before.before.before.before.before.before.before.before.before.before.before.before.before.before.before.before.before.before.before.before.before.before.before.before.before.before.before.before.before.before.requires.0 c.before.before.before.before.before.before.before.before.before.before.before.before.before.before.before.before.before.before.before.before.before.before.make-set.ensures.0 c.before.before.before.before.before.before.before.before.before.before.before.before.before.before.before.before.x.given.1 c.before.before.before.before.before.before.before.before.before.before.before.before.least-common.ensures
-    (omega (arith, e, c.before.before.before.before.before.before.before.before.before.before.before.if1.false)) c.before.before.before.before.before.before.before.before.before.before.before.before.before.before.before.before.before.before.before.before.before.before.before.before.before.before.before.before.before.before.args.list.now (omega
-    (arith, c.before.before.before.before.before.before.before.before.before.before.if2.false)) c.before.before.before.before.before.before.write-on.ensures))
+    (λ c. c.write_on.auto.words ∙ c.make_set.auto.words)
+    (λ c. c.write_on.auto.counts ∙ c.make_set.auto.counts)
+    (λ c. simp length-set at c.write_on.auto.list)
+    (λ c. let e = power_fits c.args.limits.bits (base-bits c.requires.0.start.base) in find-written c.requires.0 c.make_set.ensures.0 c.in-At.is c.least_common-s.ensures
+    (omega (arith, e, c.if-states-s.false)) c.args.list.now (omega
+    (arith, c.if-list-one.false)) c.write_on.ensures))

@@ -14,60 +14,60 @@ fitting_spec =
     tie.close
     (tie.spec
     (λ c κs. (
-      base-bits c.before.before.before.before.before.before.requires.0.base,
+      base-bits c.requires.0.base,
       (
         cube-asks
-            c.before.before.before.before.before.before.args.joint.mask
-            c.before.before.before.before.before.before.args.joint.value
-            c.before.before.before.before.before.before.args.count
-            c.before.before.before.before.before.before.requires.0,
-        c.before.before.before.before.before.before.requires.1,
+            c.args.joint.mask
+            c.args.joint.value
+            c.args.count
+            c.requires.0,
+        c.requires.1,
       ),
     ))
     (λ c. search rules)
     (λ c. search rules)
-    (λ c. c.before.before.before.before.before.before.take_step.auto.0)
-    (λ c. c.before.before.before.before.before.before.take_step.auto.1.0)
+    (λ c. c.take_step.auto.words)
+    (λ c. c.take_step.auto.counts)
     (λ c.
-    let m = c.before.before.before.before.before.before.before.before.before.before.before.before.before.args.joint.mask in
-    let v = c.before.before.before.before.before.before.before.before.before.before.before.before.before.args.joint.value in
-    let q = c.before.before.before.before.before.before.before.before.before.before.before.before.before.args.count in
-    let p = c.before.before.before.before.before.before.before.before.before.before.before.before.before.requires.0 in (
-      fit-full m v q p (took p.base (cube-asks m v q p) c.before.before.before.before.before.before.take_step.ensures.0
-          c.before.before.before.before.before.before.take_step.ensures.2)
-          c.enum_told.given.1,
-      c.before.before.before.before.before.before.take_step.ensures.1,
+    let m = c.args.joint.mask in
+    let v = c.args.joint.value in
+    let q = c.args.count in
+    let p = c.requires.0 in (
+      fit-full m v q p (took p.base (cube-asks m v q p) c.take_step.ensures.0
+          c.take_step.ensures.2)
+          c.in_default.is,
+      c.take_step.ensures.1,
     ))
     (λ c κs.
-    let m = c.before.before.before.before.before.before.before.before.before.before.before.before.before.before.before.before.args.joint.mask in
-    let v = c.before.before.before.before.before.before.before.before.before.before.before.before.before.before.before.before.args.joint.value in
-    let q = c.before.before.before.before.before.before.before.before.before.before.before.before.before.before.before.before.args.count in
-    let p = c.before.before.before.before.before.before.before.before.before.before.before.before.before.before.before.before.requires.0 in (
+    let m = c.args.joint.mask in
+    let v = c.args.joint.value in
+    let q = c.args.count in
+    let p = c.requires.0 in (
       base-bits p.base,
       (
         and-asks m v q p (took p.base (cube-asks m v q p)
-            c.before.before.before.before.before.before.before.before.before.take_step.ensures.0
-            c.before.before.before.before.before.before.before.before.before.take_step.ensures.2)
-            c.before.before.before.f.given.1,
-        c.before.before.before.before.before.before.before.before.before.take_step.ensures.1,
+            c.take_step.ensures.0
+            c.take_step.ensures.2)
+            c.in-At.is,
+        c.take_step.ensures.1,
       ),
     ))
-    (λ c. c.before.before.before.before.take-step2.auto.0
-    ∙ c.before.before.before.before.before.before.before.before.before.before.before.before.before.before.take_step.auto.0)
-    (λ c. c.before.before.before.before.take-step2.auto.1.0
-    ∙ c.before.before.before.before.before.before.before.before.before.before.before.before.before.before.take_step.auto.1.0)
+    (λ c. c.take_step-2.auto.words
+    ∙ c.take_step.auto.words)
+    (λ c. c.take_step-2.auto.counts
+    ∙ c.take_step.auto.counts)
     (λ c.
-    let m = c.before.before.before.before.before.before.before.before.before.before.before.before.before.before.before.before.before.before.before.before.before.args.joint.mask in
-    let v = c.before.before.before.before.before.before.before.before.before.before.before.before.before.before.before.before.before.before.before.before.before.args.joint.value in
-    let q = c.before.before.before.before.before.before.before.before.before.before.before.before.before.before.before.before.before.before.before.before.before.args.count in
-    let p = c.before.before.before.before.before.before.before.before.before.before.before.before.before.before.before.before.before.before.before.before.before.requires.0 in
+    let m = c.args.joint.mask in
+    let v = c.args.joint.value in
+    let q = c.args.count in
+    let p = c.requires.0 in
     let s = took p.base (cube-asks m v q p)
-    c.before.before.before.before.before.before.before.before.before.before.before.before.before.before.take_step.ensures.0
-    c.before.before.before.before.before.before.before.before.before.before.before.before.before.before.take_step.ensures.2 in (
-      fit-ends m v q p s c.before.before.before.before.before.before.before.before.f.given.1 (took (and-base m v q p s
-          c.before.before.before.before.before.before.before.before.f.given.1) (and-asks m v q p s
-          c.before.before.before.before.before.before.before.before.f.given.1)
-          c.before.before.before.before.take-step2.ensures.0
-          c.before.before.before.before.take-step2.ensures.2),
-      c.before.before.before.before.take-step2.ensures.1,
+    c.take_step.ensures.0
+    c.take_step.ensures.2 in (
+      fit-ends m v q p s c.in-At.is (took (and-base m v q p s
+          c.in-At.is) (and-asks m v q p s
+          c.in-At.is)
+          c.take_step-2.ensures.0
+          c.take_step-2.ensures.2),
+      c.take_step-2.ensures.1,
     )))

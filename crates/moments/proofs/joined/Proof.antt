@@ -15,17 +15,17 @@ joined_spec =
     (tie.spec
     (λ c κs. search rules)
     (λ c κs. search rules)
-    (λ c. joins-not-one c.before.before.before.args.mask c.before.before.before.args.value c.before.before.before.args.mask2
-    c.before.before.before.args.value2 c.never.ensures c.before.before.fits2.ensures c.before.if1.true)
+    (λ c. joins-not-one c.args.mask c.args.value c.args.mask2
+    c.args.value2 c.never.ensures c.before.before.fits-2.ensures c.if-not-fits.true-raw)
     (λ c. search rules)
     (λ c. search rules)
-    (λ c. joins-not-two c.before.before.before.before.before.args.mask c.before.before.before.before.before.args.value
-    c.before.before.before.before.before.args.mask2 c.before.before.before.before.before.args.value2 c.never2.ensures
-    c.before.before.fits3.ensures c.before.if2.true)
+    (λ c. joins-not-two c.args.mask c.args.value
+    c.args.mask2 c.args.value2 c.never-then-not-fits-2.ensures
+    c.before.before.fits3.ensures c.if-not-fits-2.true-raw)
     (λ c κs. search rules)
     (λ c. search rules)
-    (λ c. joins-both c.before.before.before.before.before.before.args.mask
-    c.before.before.before.before.before.before.args.value c.before.before.before.before.before.before.args.mask2
-    c.before.before.before.before.before.before.args.value2 c.before.before.before.before.before.fits2.ensures
-    c.before.before.before.before.if1.false c.before.before.before.fits3.ensures c.before.before.if2.false
-    c.before.wide.ensures c.wide2.ensures))
+    (λ c. joins-both c.args.mask
+    c.args.value c.args.mask2
+    c.args.value2 c.fits-2.ensures
+    c.if-not-fits.false-raw c.before.before.before.fits3.ensures c.if-not-fits-2.false-raw
+    c.wide.ensures c.wide-2.ensures))

@@ -13,21 +13,21 @@ pub last_set_spec : {M : Type 1} → statement M
 last_set_spec =
     tie.close
     (tie.spec
-    (λ c. let l = c.before.before.before.before.requires.0.logs.first in omega (arith, l))
-    (λ c κs. entry_at c.before.before.before.before.requires.0.logs (omega arith))
+    (λ c. let l = c.requires.0.logs.first in omega (arith, l))
+    (λ c κs. entry_at c.requires.0.logs (omega arith))
     (λ c. search rules)
     (λ c κs. (
-      c.before.before.before.before.before.before.before.before.requires.0.fitting,
-      c.before.before.before.before.before.before.before.before.requires.1,
+      c.requires.0.fitting,
+      c.requires.1,
     ))
-    (λ c. c.before.before.before.before.fitting.auto.0)
-    (λ c. c.before.before.before.before.fitting.auto.1.0)
+    (λ c. c.fitting.auto.words)
+    (λ c. c.fitting.auto.counts)
     (λ c. (
       last-ends
-          c.before.before.before.before.before.before.before.before.before.before.before.before.before.args.limits.limit
-          c.before.before.before.before.before.before.before.before.before.before.before.before.before.args.one.now
-          c.before.before.before.before.before.before.before.before.before.before.before.before.before.args.two.now
-          c.before.before.before.before.before.before.before.before.moment-at.ensures
-          c.before.before.before.before.fitting.ensures.0,
-      c.before.before.before.before.fitting.ensures.1,
+          c.args.limits.limit
+          c.args.one.now
+          c.args.two.now
+          c.moment_at-joint.ensures
+          c.fitting.ensures.0,
+      c.fitting.ensures.1,
     )))

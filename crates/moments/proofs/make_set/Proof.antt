@@ -18,7 +18,7 @@ use Rattle.moments.proofs.make_set.Tie as tie
 use Rattle.moments.proofs.make_set.Reads as reads
 use Rattle.moments.proofs.make_set.Lts as lts
 
-abbrev invariant_loop : tie.invariant_loop
+abbrev invariant_loop : tie.invariant-loop-i
 invariant_loop words₀ counts₀ limits relation valid one two at f i₀ x₀ words counts i x =
     (length words ≡ length words₀) × (length counts ≡ length counts₀) × (at ≤ i) × (i ≤ last_moment one)
     × CountsOf (view limits.rows words) counts
@@ -28,7 +28,7 @@ invariant_loop words₀ counts₀ limits relation valid one two at f i₀ x₀ w
     → (S : Scene limits.bits W relation valid)
     → HasSet limits.bits limits.limit W (view limits.rows words) relation valid S one two (last_moment one - i) i x)
 
-abbrev decreases_loop : tie.decreases_loop
+abbrev decreases_loop : tie.decreases-loop-i
 decreases_loop words₀ counts₀ limits relation valid one two at f i₀ x₀ words counts i x = i
 
 pub make_set_spec : {M : Type 1} → statement M
@@ -39,112 +39,112 @@ make_set_spec =
     decreases_loop
     (λ c κs. (
       last-asks
-          c.before.before.before.before.before.before.requires.0,
-      c.before.before.before.before.before.before.requires.1,
+          c.requires.0,
+      c.requires.1,
     ))
     (λ c. search rules)
     (λ c. search rules)
-    (λ c. c.before.before.before.before.before.before.last_set.auto.0)
-    (λ c. c.before.before.before.before.before.before.last_set.auto.1.0)
+    (λ c. c.last_set.auto.words)
+    (λ c. c.last_set.auto.counts)
     (λ c. (
-      last-full c.before.before.before.before.before.before.before.before.before.before.before.before.before.requires.0
-          c.before.before.before.before.before.before.last_set.ensures.0
-          c.enum_told.given.1,
-      c.before.before.before.before.before.before.last_set.ensures.1,
+      last-full c.requires.0
+          c.last_set.ensures.0
+          c.in_default.is,
+      c.last_set.ensures.1,
     ))
     (λ c.
-    let l = c.before.before.before.before.before.before.before.before.before.before.before.before.before.before.requires.0.logs.first in omega
+    let l = c.requires.0.logs.first in omega
     (arith, l))
     (λ c. (
       refl,
       refl,
-      c.before.before.before.before.before.before.before.before.before.before.before.before.before.before.requires.0.inside,
+      c.requires.0.inside,
       omega arith,
-      c.before.before.before.before.before.before.before.last_set.ensures.1,
+      c.last_set.ensures.1,
       λ W a h S. h S,
     ))
-    (λ c. omega (arith, c.loop-test.true))
+    (λ c. omega (arith, c.loop-i-test.true))
     (λ c κs. entry_at
-    c.before.before.before.before.before.before.before.before.before.before.before.before.before.before.before.before.requires.0.logs
-    (omega (arith, c.before.loop.invariant.3)))
+    c.requires.0.logs
+    (omega (arith, c.loop-i.invariant.3)))
     (λ c κs. (
       before-asks
-          c.before.before.before.before.before.before.before.before.before.before.before.before.before.before.before.before.before.before.before.requires.0
-          (c.before.before.before.before.loop.invariant.5 _
-          c.before.before.before.before.before.before.before.before.before.before.before.before.before.before.before.before.before.before.before.requires.0
+          c.requires.0
+          (c.loop-i.invariant.5 _
+          c.requires.0
           (last_made
-          c.before.before.before.before.before.before.before.before.before.before.before.before.before.before.before.before.before.before.before.requires.0
-          c.before.before.before.before.before.before.before.before.before.before.before.before.last_set.ensures.0
-          (omega arith) c.before.before.before.before.before.before.f.given.1)),
-      c.before.before.before.before.loop.invariant.4,
+          c.requires.0
+          c.last_set.ensures.0
+          (omega arith) c.in-At.is)),
+      c.loop-i.invariant.4,
     ))
     (λ c. search rules)
     (λ c. search rules)
-    (λ c. c.before.before.before.before.before.before.before2.auto.0
-    ∙ c.before.before.before.before.before.before.before.before.before.before.before.loop.invariant.0
-    ∙ c.before.before.before.before.before.before.before.before.before.before.before.before.before.before.before.before.before.before.before.last_set.auto.0)
-    (λ c. c.before.before.before.before.before.before.before2.auto.1.0
-    ∙ c.before.before.before.before.before.before.before.before.before.before.before.loop.invariant.1
-    ∙ c.before.before.before.before.before.before.before.before.before.before.before.before.before.before.before.before.before.before.before.last_set.auto.1.0)
+    (λ c. c.before-in-loop-i.auto.words
+    ∙ c.loop-i.invariant.0
+    ∙ c.last_set.auto.words)
+    (λ c. c.before-in-loop-i.auto.counts
+    ∙ c.loop-i.invariant.1
+    ∙ c.last_set.auto.counts)
     (λ c. (
       turn-full
-          c.before.before.before.before.before.before.before.before.before.before.before.before.before.before.before.before.before.before.before.before.before.before.before.before.before.before.requires.0
-          (c.before.before.before.before.before.before.before.before.before.before.before.loop.invariant.5 _
-          c.before.before.before.before.before.before.before.before.before.before.before.before.before.before.before.before.before.before.before.before.before.before.before.before.before.before.requires.0
+          c.requires.0
+          (c.loop-i.invariant.5 _
+          c.requires.0
           (last_made
-          c.before.before.before.before.before.before.before.before.before.before.before.before.before.before.before.before.before.before.before.before.before.before.before.before.before.before.requires.0
-          c.before.before.before.before.before.before.before.before.before.before.before.before.before.before.before.before.before.before.before.last_set.ensures.0
+          c.requires.0
+          c.last_set.ensures.0
           (omega arith)
-          c.before.before.before.before.before.before.before.before.before.before.before.before.before.f.given.1)) (omega
-          (arith, c.before.before.before.before.before.before.before.before.before.before.loop-test.true))
-          c.before.before.before.before.before.before.before.before.before.moment-at.ensures
-          c.before.before.before.before.before.before.before2.ensures.0 (omega
-          (arith, c.before.before.before.before.before.before.before.before.before.before.loop-test.true)) (omega (
+          c.in-At.is)) (omega
+          (arith, c.loop-i-test.true))
+          c.moment_at-m.ensures
+          c.before-in-loop-i.ensures.0 (omega
+          (arith, c.loop-i-test.true)) (omega (
             arith,
-            c.before.before.before.before.before.before.before.before.before.before.before.loop.invariant.3,
-          )) c.enum-told2.given.1,
-      c.before.before.before.before.before.before.before2.ensures.1,
+            c.loop-i.invariant.3,
+          )) c.in_default-before.is,
+      c.before-in-loop-i.ensures.1,
     ))
     (λ c. omega (
       arith,
-      c.before.before.before.before.before.before.before.before.before.before.before.loop-test.true,
+      c.loop-i-test.true,
     ))
     (λ c. (
-      c.before.before.before.before.before.before.before.before2.auto.0
-          ∙ c.before.before.before.before.before.before.before.before.before.before.before.before.loop.invariant.0,
-      c.before.before.before.before.before.before.before.before2.auto.1.0
-          ∙ c.before.before.before.before.before.before.before.before.before.before.before.before.loop.invariant.1,
+      c.before-in-loop-i.auto.words
+          ∙ c.loop-i.invariant.0,
+      c.before-in-loop-i.auto.counts
+          ∙ c.loop-i.invariant.1,
       omega (
         arith,
-        c.before.before.before.before.before.before.before.before.before.before.before.loop-test.true,
+        c.loop-i-test.true,
       ),
       omega (
         arith,
-        c.before.before.before.before.before.before.before.before.before.before.before.before.loop.invariant.3,
+        c.loop-i.invariant.3,
       ),
-      c.before.before.before.before.before.before.before.before2.ensures.1,
+      c.before-in-loop-i.ensures.1,
       λ W a h S. turn-made a
-          (c.before.before.before.before.before.before.before.before.before.before.before.before.loop.invariant.5 W a h) (omega (
+          (c.loop-i.invariant.5 W a h) (omega (
             arith,
-            c.before.before.before.before.before.before.before.before.before.before.before.loop-test.true,
-          )) c.before.before.before.before.before.before.before.before.before.before.moment-at.ensures
-          c.before.before.before.before.before.before.before.before2.ensures.0 (omega (
+            c.loop-i-test.true,
+          )) c.moment_at-m.ensures
+          c.before-in-loop-i.ensures.0 (omega (
             arith,
-            c.before.before.before.before.before.before.before.before.before.before.before.loop-test.true,
-            c.before.before.before.before.before.before.before.before.before.before.before.before.loop.invariant.3,
-          )) c.before.y.given.1 S,
+            c.loop-i-test.true,
+            c.loop-i.invariant.3,
+          )) c.in-At-before.is S,
     ))
-    (λ c. c.before.loop.invariant.0 ∙ c.before.before.before.before.before.before.before.before.before.last_set.auto.0)
-    (λ c. c.before.loop.invariant.1 ∙ c.before.before.before.before.before.before.before.before.before.last_set.auto.1.0)
+    (λ c. c.loop-i.invariant.0 ∙ c.last_set.auto.words)
+    (λ c. c.loop-i.invariant.1 ∙ c.last_set.auto.counts)
     (λ c. (
       set-ends
-          c.before.before.before.before.before.before.before.before.before.before.before.before.before.before.before.before.requires.0
-          (c.before.loop.invariant.5 _
-          c.before.before.before.before.before.before.before.before.before.before.before.before.before.before.before.before.requires.0
+          c.requires.0
+          (c.loop-i.invariant.5 _
+          c.requires.0
           (last_made
-          c.before.before.before.before.before.before.before.before.before.before.before.before.before.before.before.before.requires.0
-          c.before.before.before.before.before.before.before.before.before.last_set.ensures.0 (omega arith)
-          c.before.before.before.f.given.1)) c.loop-test.false c.before.loop.invariant.2 (omega
-          (arith, c.before.loop.invariant.3)),
-      c.before.loop.invariant.4,
+          c.requires.0
+          c.last_set.ensures.0 (omega arith)
+          c.in-At.is)) c.loop-i-test.false c.loop-i.invariant.2 (omega
+          (arith, c.loop-i.invariant.3)),
+      c.loop-i.invariant.4,
     )))

@@ -23,6 +23,6 @@ moment_at_spec =
     (λ c. search rules)
     (λ c. search rules)
     (λ c κs. search rules)
-    (λ c. joins_at c.before.before.before.before.before.before.before.args.one.now
-    c.before.before.before.before.before.before.before.args.two.now
-    c.before.before.before.before.before.before.before.args.i c.joined.ensures))
+    (λ c. joins_at c.args.one.now
+    c.args.two.now
+    c.args.i c.joined.ensures))

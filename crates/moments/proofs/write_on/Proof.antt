@@ -15,14 +15,14 @@ use Rattle.moments.proofs.write_on.Tie as tie
 use Rattle.moments.proofs.write_on.Reads as reads
 use Rattle.moments.proofs.write_on.Lts as lts
 
-abbrev invariant_loop : tie.invariant_loop
+abbrev invariant_loop : tie.invariant-loop-i
 invariant_loop words₀ counts₀ list₀ limits relation valid one two first last s₀ i₀ words counts list s i =
     (length words ≡ length words₀) × (length counts ≡ length counts₀) × (length list ≡ length list₀) × (i ≤ last)
     × (last ≡ last_moment one) × CountsOf (view limits.rows words) counts
     × Stands limits.bits limits.limit (view limits.rows words₀) (view limits.rows words) relation valid one two first list₀ list
     s (last - i) i
 
-abbrev decreases_loop : tie.decreases_loop
+abbrev decreases_loop : tie.decreases-loop-i
 decreases_loop words₀ counts₀ list₀ limits relation valid one two first last s₀ i₀ words counts list s i = last - i
 
 pub write_on_spec : {M : Type 1} → statement M
@@ -31,97 +31,97 @@ write_on_spec =
     (tie.spec
     invariant_loop
     decreases_loop
-    (λ c. let l = c.before.before.before.before.before.requires.0.logs.first in omega (arith, l))
+    (λ c. let l = c.requires.0.logs.first in omega (arith, l))
     (λ c. (
       refl,
       refl,
       refl,
       omega arith,
       refl,
-      c.before.before.before.before.before.requires.1,
+      c.requires.1,
       write_starts
-          c.before.before.before.before.before.requires.0 (omega arith),
+          c.requires.0 (omega arith),
     ))
-    (λ c. let l = c.before.before.before.before.before.before.before.requires.0.logs.few in omega
-    (arith, l, c.loop-test.true, c.before.loop.invariant.4))
+    (λ c. let l = c.requires.0.logs.few in omega
+    (arith, l, c.loop-i-test.true, c.loop-i.invariant.4))
     (λ c κs. (
-      write_again c.before.before.before.before.before.before.before.before.before.requires.0 (omega
-          (arith, c.before.before.loop-test.true)) (omega
-          (arith, c.before.before.before.loop.invariant.3, c.before.before.before.loop.invariant.4)) c.before.before.before.loop.invariant.6
+      write_again c.requires.0 (omega
+          (arith, c.loop-i-test.true)) (omega
+          (arith, c.loop-i.invariant.3, c.loop-i.invariant.4)) c.loop-i.invariant.6
           (omega arith),
-      c.before.before.before.loop.invariant.5,
+      c.loop-i.invariant.5,
     ))
     (λ c. search rules)
     (λ c. search rules)
-    (λ c. c.before.before.before.before.before.before.make-set.auto.0
-    ∙ c.before.before.before.before.before.before.before.before.before.before.loop.invariant.0)
-    (λ c. c.before.before.before.before.before.before.make-set.auto.1.0
-    ∙ c.before.before.before.before.before.before.before.before.before.before.loop.invariant.1)
-    (λ c. c.before.before.before.before.before.before.before.before.before.before.loop.invariant.2)
+    (λ c. c.make_set.auto.words
+    ∙ c.loop-i.invariant.0)
+    (λ c. c.make_set.auto.counts
+    ∙ c.loop-i.invariant.1)
+    (λ c. c.loop-i.invariant.2)
     (λ c. absurd (write_never
-    c.before.before.before.before.before.before.before.before.before.before.before.before.before.before.before.before.requires.0
-    (omega (arith, c.before.before.before.before.before.before.before.before.before.loop-test.true)) (omega (
+    c.requires.0
+    (omega (arith, c.loop-i-test.true)) (omega (
       arith,
-      c.before.before.before.before.before.before.before.before.before.before.loop.invariant.3,
-      c.before.before.before.before.before.before.before.before.before.before.loop.invariant.4,
-    )) c.before.before.before.before.before.before.before.before.before.before.loop.invariant.6 (omega arith)
-    c.before.before.before.before.before.before.make-set.ensures.0 c.enum_told.given.1))
+      c.loop-i.invariant.3,
+      c.loop-i.invariant.4,
+    )) c.loop-i.invariant.6 (omega arith)
+    c.make_set.ensures.0 c.in_default.is))
     (λ c κs.
-    let r = c.before.before.before.before.before.before.before.before.before.before.before.before.before.before.before.before.before.before.before.requires.0.room in next-asks
-    c.before.before.before.before.before.before.before.before.before.before.before.before.before.before.before.before.before.before.before.requires.0
+    let r = c.requires.0.room in next-asks
+    c.requires.0
     (omega (
       arith,
-      c.before.before.before.before.before.before.before.before.before.before.before.before.loop-test.true,
+      c.loop-i-test.true,
     )) (omega (
       arith,
-      c.before.before.before.before.before.before.before.before.before.before.before.before.before.loop.invariant.3,
-      c.before.before.before.before.before.before.before.before.before.before.before.before.before.loop.invariant.4,
-    )) c.before.before.before.before.before.before.before.before.before.before.before.before.before.loop.invariant.6
-    (omega arith) c.before.before.before.before.before.before.before.before.before.make-set.ensures.0
-    c.before.before.before.x.given.1 (omega (
+      c.loop-i.invariant.3,
+      c.loop-i.invariant.4,
+    )) c.loop-i.invariant.6
+    (omega arith) c.make_set.ensures.0
+    c.in-At.is (omega (
       arith,
       r,
-      c.before.before.before.before.before.before.before.before.before.before.before.before.before.loop.invariant.2,
-      c.before.before.before.before.before.before.before.before.before.before.before.before.before.loop.invariant.4,
-      c.before.before.before.before.before.before.before.before.before.before.before.before.loop-test.true,
+      c.loop-i.invariant.2,
+      c.loop-i.invariant.4,
+      c.loop-i-test.true,
     )))
     (λ c. omega (
       arith,
-      c.before.before.before.before.before.before.before.before.before.before.before.before.before.before.before.loop-test.true,
+      c.loop-i-test.true,
     ))
     (λ c. (
-      c.before.before.before.before.before.before.before.before.before.before.before.before.make-set.auto.0
-          ∙ c.before.before.before.before.before.before.before.before.before.before.before.before.before.before.before.before.loop.invariant.0,
-      c.before.before.before.before.before.before.before.before.before.before.before.before.make-set.auto.1.0
-          ∙ c.before.before.before.before.before.before.before.before.before.before.before.before.before.before.before.before.loop.invariant.1,
+      c.make_set.auto.words
+          ∙ c.loop-i.invariant.0,
+      c.make_set.auto.counts
+          ∙ c.loop-i.invariant.1,
       ap length
-          c.before.before.write-next.ensures.list ∙ length-set
-          c.before.before.before.before.before.before.before.before.before.before.before.before.before.before.before.before.loop.list
-          (c.before.before.before.before.before.before.before.before.before.before.before.before.before.before.before.before.loop.i + 1) _
-          ∙ c.before.before.before.before.before.before.before.before.before.before.before.before.before.before.before.before.loop.invariant.2,
+          c.write_next-s.ensures.list ∙ length-set
+          c.loop-i.list
+          (c.loop-i.i + 1) _
+          ∙ c.loop-i.invariant.2,
       omega (
         arith,
-        c.before.before.before.before.before.before.before.before.before.before.before.before.before.before.before.loop-test.true,
+        c.loop-i-test.true,
       ),
-      c.before.before.before.before.before.before.before.before.before.before.before.before.before.before.before.before.loop.invariant.4,
-      c.before.before.before.before.before.before.before.before.before.before.before.before.make-set.ensures.1,
+      c.loop-i.invariant.4,
+      c.make_set.ensures.1,
       write_turns
-          c.before.before.before.before.before.before.before.before.before.before.before.before.before.before.before.before.before.before.before.before.before.before.requires.0
+          c.requires.0
           (omega (
             arith,
-            c.before.before.before.before.before.before.before.before.before.before.before.before.before.before.before.loop-test.true,
+            c.loop-i-test.true,
           )) (omega (
             arith,
-            c.before.before.before.before.before.before.before.before.before.before.before.before.before.before.before.before.loop.invariant.3,
-            c.before.before.before.before.before.before.before.before.before.before.before.before.before.before.before.before.loop.invariant.4,
+            c.loop-i.invariant.3,
+            c.loop-i.invariant.4,
           ))
-          c.before.before.before.before.before.before.before.before.before.before.before.before.before.before.before.before.loop.invariant.6
+          c.loop-i.invariant.6
           (omega arith)
-          c.before.before.before.before.before.before.before.before.before.before.before.before.make-set.ensures.0
-          c.before.before.before.before.before.before.x.given.1 c.before.before.write-next.ensures (omega arith),
+          c.make_set.ensures.0
+          c.in-At.is c.write_next-s.ensures (omega arith),
     ))
-    (λ c. c.before.loop.invariant.0)
-    (λ c. c.before.loop.invariant.1)
-    (λ c. c.before.loop.invariant.2)
-    (λ c. write_ends c.before.before.before.before.before.before.before.requires.0 (omega (arith, c.loop-test.false))
-    c.before.loop.invariant.6))
+    (λ c. c.loop-i.invariant.0)
+    (λ c. c.loop-i.invariant.1)
+    (λ c. c.loop-i.invariant.2)
+    (λ c. write_ends c.requires.0 (omega (arith, c.loop-i-test.false))
+    c.loop-i.invariant.6))

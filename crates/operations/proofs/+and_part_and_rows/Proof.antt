@@ -61,33 +61,33 @@ pub +and_part_and_rows_spec : {M : Type 1} → statement M
     (and_part-at t)
     and-part.Post
     (λ c κs. search rules)
-    (λ c κs. let r = c.before.before.before.requires.1.0 in (ready-room r, r.memory.sizes))
+    (λ c κs. let r = c.requires.1.0 in (ready-room r, r.memory.sizes))
     (λ c. search rules)
     (λ c. search rules)
-    (λ c. let r = c.before.before.before.before.before.before.before.requires.1.0 in
-    let S = sorted_swap _ _ c.before.before.before.before.before.sort.ensures.0
-    c.before.before.before.before.before.sort.ensures.1 in
-    let U = swap-arrows r S c.before.before.before.before.before.before.before.requires.1.1
-    c.before.before.before.before.before.before.before.requires.1.2 in
-    let p = c.before.before.before.before.before.sort.ensures.0 in
-    let q = c.before.before.before.before.before.sort.ensures.1 in
-    swap_worked r S (known_worked r U (omega arith) c.before.found.given.1 c.before.before.before.known.ensures))
+    (λ c. let r = c.requires.1.0 in
+    let S = sorted_swap _ _ c.sort-p.ensures.0
+    c.sort-p.ensures.1 in
+    let U = swap-arrows r S c.requires.1.1
+    c.requires.1.2 in
+    let p = c.sort-p.ensures.0 in
+    let q = c.sort-p.ensures.1 in
+    swap_worked r S (known_worked r U (omega arith) c.in-At.is c.known-found.ensures))
     (λ c. search rules)
-    (λ c κs. let r = c.before.before.before.before.before.before.before.requires.1.0 in
-    let S = sorted_swap _ _ c.before.before.before.before.before.sort.ensures.0
-    c.before.before.before.before.before.sort.ensures.1 in
-    let U = swap-arrows r S c.before.before.before.before.before.before.before.requires.1.1
-    c.before.before.before.before.before.before.before.requires.1.2 in
-    let p = c.before.before.before.before.before.sort.ensures.0 in
-    let q = c.before.before.before.before.before.sort.ensures.1 in
-    let B = short_none _ _ (omega arith) (rw c.before.enum_told.given.1 at c.before.before.before.known.ensures) in
+    (λ c κs. let r = c.requires.1.0 in
+    let S = sorted_swap _ _ c.sort-p.ensures.0
+    c.sort-p.ensures.1 in
+    let U = swap-arrows r S c.requires.1.1
+    c.requires.1.2 in
+    let p = c.sort-p.ensures.0 in
+    let q = c.sort-p.ensures.1 in
+    let B = short_none _ _ (omega arith) (rw c.in_default.is at c.known-found.ensures) in
     let e = swap-depth r S in
-    (rw (← c.before.before.before.before.before.before.before.requires.0) (omega arith), (r, U.0, U.1, B)))
+    (rw (← c.requires.0) (omega arith), (r, U.0, U.1, B)))
     (λ c. search rules)
-    (λ c. let r = c.before.before.before.before.before.before.before.before.before.before.requires.1.0 in
-    let S = sorted_swap _ _ c.before.before.before.before.before.before.before.before.sort.ensures.0
-    c.before.before.before.before.before.before.before.before.sort.ensures.1 in
-    swap_worked r S c.before.before.and-rows.ensures))
+    (λ c. let r = c.requires.1.0 in
+    let S = sorted_swap _ _ c.sort-p.ensures.0
+    c.sort-p.ensures.1 in
+    swap_worked r S c.and_rows.ensures))
     λ t. and-rows-lts.spec (
       top-reads.Asked,
       top-reads.Learnt,
@@ -102,133 +102,133 @@ pub +and_part_and_rows_spec : {M : Type 1} → statement M
     )
     (and-rows_at t)
     and-rows.Post
-    (λ c κs. let r = c.before.before.requires.1.0 in
-    let B = c.before.before.requires.1.3 in
-    let w = both-within r (c.before.before.requires.1.1, c.before.before.requires.1.2) B in (B, w.0, w.1, r.good.sizes.room))
-    (λ c κs. let r = c.before.before.before.before.requires.1.0 in
-    let B = c.before.before.before.before.requires.1.3 in
-    let w = both-within r (c.before.before.before.before.requires.1.1, c.before.before.before.before.requires.1.2) B in
+    (λ c κs. let r = c.requires.1.0 in
+    let B = c.requires.1.3 in
+    let w = both-within r (c.requires.1.1, c.requires.1.2) B in (B, w.0, w.1, r.good.sizes.room))
+    (λ c κs. let r = c.requires.1.0 in
+    let B = c.requires.1.3 in
+    let w = both-within r (c.requires.1.1, c.requires.1.2) B in
     (B.left, w.0, r.good.sizes.room))
-    (λ c κs. let r = c.before.before.before.before.before.before.requires.1.0 in
-    let B = c.before.before.before.before.before.before.requires.1.3 in
+    (λ c κs. let r = c.requires.1.0 in
+    let B = c.requires.1.3 in
     let w = both-within r
-    (c.before.before.before.before.before.before.requires.1.1, c.before.before.before.before.before.before.requires.1.2) B in
+    (c.requires.1.1, c.requires.1.2) B in
     (B.right, w.1, r.good.sizes.room))
-    (λ c κs. let r = c.before.before.before.before.before.before.before.before.requires.1.0 in
-    let B = c.before.before.before.before.before.before.before.before.requires.1.3 in
+    (λ c κs. let r = c.requires.1.0 in
+    let B = c.requires.1.3 in
     let T = split _ _ (ready-wf r) (
-      c.before.before.before.before.before.before.before.before.requires.1.1,
-      c.before.before.before.before.before.before.before.before.requires.1.2,
+      c.requires.1.1,
+      c.requires.1.2,
     ) B
-    c.before.before.before.before.before.top.ensures c.before.before.before.halve.ensures
-    c.before.halve2.ensures in (
-      rw (← c.before.before.before.before.before.before.before.before.requires.0) (part_falls _ _ (pair-low-falls T)),
+    c.top-level.ensures c.halve-x.ensures
+    c.halve-y.ensures in (
+      rw (← c.requires.0) (part_falls _ _ (pair-low-falls T)),
       (r, T.left.low-arrow, T.right.low-arrow),
     ))
     (λ c. search rules)
-    (λ c. let r = c.before.before.before.before.before.before.before.before.before.before.before.before.requires.1.0 in
-    let B = c.before.before.before.before.before.before.before.before.before.before.before.before.requires.1.3 in
+    (λ c. let r = c.requires.1.0 in
+    let B = c.requires.1.3 in
     let T = split _ _ (ready-wf r) (
-      c.before.before.before.before.before.before.before.before.before.before.before.before.requires.1.1,
-      c.before.before.before.before.before.before.before.before.before.before.before.before.requires.1.2,
+      c.requires.1.1,
+      c.requires.1.2,
     ) B
-    c.before.before.before.before.before.before.before.before.before.top.ensures
-    c.before.before.before.before.before.before.before.halve.ensures
-    c.before.before.before.before.before.halve2.ensures in
+    c.top-level.ensures
+    c.halve-x.ensures
+    c.halve-y.ensures in
     let D = pair-calls r (
-      c.before.before.before.before.before.before.before.before.before.before.before.before.requires.1.1,
-      c.before.before.before.before.before.before.before.before.before.before.before.before.requires.1.2,
+      c.requires.1.1,
+      c.requires.1.2,
     ) T in
-    low_stops r D c.if1.true c.before.before.before.and-part.ensures)
-    (λ c κs. let r = c.before.before.before.before.before.before.before.before.before.before.before.before.before.requires.1.0 in
-    let B = c.before.before.before.before.before.before.before.before.before.before.before.before.before.requires.1.3 in
+    low_stops r D c.if-low.true c.and_part-low.ensures)
+    (λ c κs. let r = c.requires.1.0 in
+    let B = c.requires.1.3 in
     let T = split _ _ (ready-wf r) (
-      c.before.before.before.before.before.before.before.before.before.before.before.before.before.requires.1.1,
-      c.before.before.before.before.before.before.before.before.before.before.before.before.before.requires.1.2,
+      c.requires.1.1,
+      c.requires.1.2,
     ) B
-    c.before.before.before.before.before.before.before.before.before.before.top.ensures
-    c.before.before.before.before.before.before.before.before.halve.ensures
-    c.before.before.before.before.before.before.halve2.ensures in
-    let w = c.before.before.before.before.and-part.ensures in
+    c.top-level.ensures
+    c.halve-x.ensures
+    c.halve-y.ensures in
+    let w = c.and_part-low.ensures in
     let h = pair-high-later T w.post.kept in (
-      rw (← c.before.before.before.before.before.before.before.before.before.before.before.before.before.requires.0)
+      rw (← c.requires.0)
           (part_falls _ _ (pair-high-falls T w.post.kept)),
       (ready-next r w, h.0, h.1),
     ))
     (λ c. search rules)
     (λ c. let r =
-    c.before.before.before.before.before.before.before.before.before.before.before.before.before.before.before.before.before.requires.1.0 in let B =
-    c.before.before.before.before.before.before.before.before.before.before.before.before.before.before.before.before.before.requires.1.3 in let T =
+    c.requires.1.0 in let B =
+    c.requires.1.3 in let T =
     split _ _ (ready-wf r) (
-      c.before.before.before.before.before.before.before.before.before.before.before.before.before.before.before.before.before.requires.1.1,
-      c.before.before.before.before.before.before.before.before.before.before.before.before.before.before.before.before.before.requires.1.2,
+      c.requires.1.1,
+      c.requires.1.2,
     ) B
-    c.before.before.before.before.before.before.before.before.before.before.before.before.before.before.top.ensures
-    c.before.before.before.before.before.before.before.before.before.before.before.before.halve.ensures
-    c.before.before.before.before.before.before.before.before.before.before.halve2.ensures in
+    c.top-level.ensures
+    c.halve-x.ensures
+    c.halve-y.ensures in
     let D = pair-calls r (
-      c.before.before.before.before.before.before.before.before.before.before.before.before.before.before.before.before.before.requires.1.1,
-      c.before.before.before.before.before.before.before.before.before.before.before.before.before.before.before.before.before.requires.1.2,
+      c.requires.1.1,
+      c.requires.1.2,
     ) T in
-    high_stops r D c.before.before.before.before.before.if1.false
-    c.before.before.before.before.before.before.before.before.and-part.ensures c.if2.true
-    c.before.before.before.and-part2.ensures)
+    high_stops r D c.if-low.false
+    c.and_part-low.ensures c.if-high.true
+    c.and_part-high.ensures)
     (λ c κs. let r =
-    c.before.before.before.before.before.before.before.before.before.before.before.before.before.before.before.before.before.before.requires.1.0 in let B =
-    c.before.before.before.before.before.before.before.before.before.before.before.before.before.before.before.before.before.before.requires.1.3 in let T =
+    c.requires.1.0 in let B =
+    c.requires.1.3 in let T =
     split _ _ (ready-wf r) (
-      c.before.before.before.before.before.before.before.before.before.before.before.before.before.before.before.before.before.before.requires.1.1,
-      c.before.before.before.before.before.before.before.before.before.before.before.before.before.before.before.before.before.before.requires.1.2,
+      c.requires.1.1,
+      c.requires.1.2,
     ) B
-    c.before.before.before.before.before.before.before.before.before.before.before.before.before.before.before.top.ensures
-    c.before.before.before.before.before.before.before.before.before.before.before.before.before.halve.ensures
-    c.before.before.before.before.before.before.before.before.before.before.before.halve2.ensures in
+    c.top-level.ensures
+    c.halve-x.ensures
+    c.halve-y.ensures in
     let D = pair-calls r (
-      c.before.before.before.before.before.before.before.before.before.before.before.before.before.before.before.before.before.before.requires.1.1,
-      c.before.before.before.before.before.before.before.before.before.before.before.before.before.before.before.before.before.before.requires.1.2,
+      c.requires.1.1,
+      c.requires.1.2,
     ) T in
-    row-pre r D c.before.before.before.before.before.before.if1.false
-    c.before.before.before.before.before.before.before.before.before.and-part.ensures c.before.if2.false
-    c.before.before.before.before.and-part2.ensures)
+    row-pre r D c.if-low.false
+    c.and_part-low.ensures c.if-high.false
+    c.and_part-high.ensures)
     (λ c κs. let r =
-    c.before.before.before.before.before.before.before.before.before.before.before.before.before.before.before.before.before.before.before.before.before.before.requires.1.0 in let B =
-    c.before.before.before.before.before.before.before.before.before.before.before.before.before.before.before.before.before.before.before.before.before.before.requires.1.3 in let T =
+    c.requires.1.0 in let B =
+    c.requires.1.3 in let T =
     split _ _ (ready-wf r) (
-      c.before.before.before.before.before.before.before.before.before.before.before.before.before.before.before.before.before.before.before.before.before.before.requires.1.1,
-      c.before.before.before.before.before.before.before.before.before.before.before.before.before.before.before.before.before.before.before.before.before.before.requires.1.2,
+      c.requires.1.1,
+      c.requires.1.2,
     ) B
-    c.before.before.before.before.before.before.before.before.before.before.before.before.before.before.before.before.before.before.before.top.ensures
-    c.before.before.before.before.before.before.before.before.before.before.before.before.before.before.before.before.before.halve.ensures
-    c.before.before.before.before.before.before.before.before.before.before.before.before.before.before.before.halve2.ensures in
+    c.top-level.ensures
+    c.halve-x.ensures
+    c.halve-y.ensures in
     let D = pair-calls r (
-      c.before.before.before.before.before.before.before.before.before.before.before.before.before.before.before.before.before.before.before.before.before.before.requires.1.1,
-      c.before.before.before.before.before.before.before.before.before.before.before.before.before.before.before.before.before.before.before.before.before.before.requires.1.2,
+      c.requires.1.1,
+      c.requires.1.2,
     ) T in
-    let w = row_made r D c.before.before.before.before.before.before.before.before.before.before.if1.false
-    c.before.before.before.before.before.before.before.before.before.before.before.before.before.and-part.ensures
-    c.before.before.before.before.before.if2.false
-    c.before.before.before.before.before.before.before.before.and-part2.ensures
-    c.before.before.before.make.ensures in (good-room _ w.good, w.memory.sizes))
+    let w = row_made r D c.if-low.false
+    c.and_part-low.ensures
+    c.if-high.false
+    c.and_part-high.ensures
+    c.make-made.ensures in (good-room _ w.good, w.memory.sizes))
     (λ c. search rules)
     (λ c. let r =
-    c.before.before.before.before.before.before.before.before.before.before.before.before.before.before.before.before.before.before.before.before.before.before.before.before.before.requires.1.0 in let B =
-    c.before.before.before.before.before.before.before.before.before.before.before.before.before.before.before.before.before.before.before.before.before.before.before.before.before.requires.1.3 in let T =
+    c.requires.1.0 in let B =
+    c.requires.1.3 in let T =
     split _ _ (ready-wf r) (
-      c.before.before.before.before.before.before.before.before.before.before.before.before.before.before.before.before.before.before.before.before.before.before.before.before.before.requires.1.1,
-      c.before.before.before.before.before.before.before.before.before.before.before.before.before.before.before.before.before.before.before.before.before.before.before.before.before.requires.1.2,
+      c.requires.1.1,
+      c.requires.1.2,
     ) B
-    c.before.before.before.before.before.before.before.before.before.before.before.before.before.before.before.before.before.before.before.before.before.before.top.ensures
-    c.before.before.before.before.before.before.before.before.before.before.before.before.before.before.before.before.before.before.before.before.halve.ensures
-    c.before.before.before.before.before.before.before.before.before.before.before.before.before.before.before.before.before.before.halve2.ensures in
+    c.top-level.ensures
+    c.halve-x.ensures
+    c.halve-y.ensures in
     let D = pair-calls r (
-      c.before.before.before.before.before.before.before.before.before.before.before.before.before.before.before.before.before.before.before.before.before.before.before.before.before.requires.1.1,
-      c.before.before.before.before.before.before.before.before.before.before.before.before.before.before.before.before.before.before.before.before.before.before.before.before.before.requires.1.2,
+      c.requires.1.1,
+      c.requires.1.2,
     ) T in
     pair-kept r (
-      c.before.before.before.before.before.before.before.before.before.before.before.before.before.before.before.before.before.before.before.before.before.before.before.before.before.requires.1.1,
-      c.before.before.before.before.before.before.before.before.before.before.before.before.before.before.before.before.before.before.before.before.before.before.before.before.before.requires.1.2,
+      c.requires.1.1,
+      c.requires.1.2,
     ) B
-    (row_made r D c.before.before.before.before.before.before.before.before.before.before.before.before.before.if1.false
-    c.before.before.before.before.before.before.before.before.before.before.before.before.before.before.before.before.and-part.ensures c.before.before.before.before.before.before.before.before.if2.false
-    c.before.before.before.before.before.before.before.before.before.before.before.and-part2.ensures
-    c.before.before.before.before.before.before.make.ensures) c.before.before.remember.ensures)
+    (row_made r D c.if-low.false
+    c.and_part-low.ensures c.if-high.false
+    c.and_part-high.ensures
+    c.make-made.ensures) c.remember.ensures)

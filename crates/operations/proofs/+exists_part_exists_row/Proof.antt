@@ -56,23 +56,23 @@ pub +exists_part_exists_row_spec : {M : Type 1} → statement M
 )
     (exists_part-at t)
     exists-part.Post
-    (λ c κs. (ready-look c.before.before.requires.1.0, c.before.before.requires.1.1, c.before.before.requires.1.2))
+    (λ c κs. (ready-look c.requires.1.0, c.requires.1.1, c.requires.1.2))
     (λ c. search rules)
     (λ c. search rules)
-    (λ c. worked_there c.before.before.before.before.before.before.requires.1.0
-    (c.before.before.before.exists_known_lem.ensures.at _ c.before.known.given.1))
+    (λ c. worked_there c.requires.1.0
+    (c.exists_known-known.ensures.at _ c.in-At.is))
     (λ c. search rules)
     (λ c κs. (
-      rw (← c.before.before.before.before.before.before.requires.0) (omega arith),
+      rw (← c.requires.0) (omega arith),
       (
-        c.before.before.before.before.before.before.requires.1.0,
-        c.before.before.before.before.before.before.requires.1.1,
-        c.before.before.before.before.before.before.requires.1.2,
-        c.before.before.before.exists_known_lem.ensures.none c.before.enum_told.given.1,
+        c.requires.1.0,
+        c.requires.1.1,
+        c.requires.1.2,
+        c.exists_known-known.ensures.none c.in_default.is,
       ),
     ))
     (λ c. search rules)
-    (λ c. c.before.before.exists-row.ensures))
+    (λ c. c.exists_row.ensures))
     λ t. exists-row-lts.spec (
       row-of-reads.Asked,
       row-of-reads.Learnt,
@@ -89,150 +89,150 @@ pub +exists_part_exists_row_spec : {M : Type 1} → statement M
     )
     (exists_row-at t)
     exists-row.Post
-    (λ c κs. c.before.requires.1.3.is_row)
-    (λ c κs. let r = c.before.before.before.requires.1.0 in
-    let R = row_at _ c.before.before.before.requires.1.1 c.before.before.before.requires.1.3.is_row
-    c.before.row_of.ensures in ((ready-wf r).bounded _ R.used, r.good.sizes.room))
-    (λ c. let r = c.before.before.before.before.requires.1.0 in
-    let e = r.levels-is in let n = r.good.sizes.n_max in let h = c.before.before.before.before.requires.1.2 in omega arith)
-    (λ c κs. let r = c.before.before.before.before.before.before.before.requires.1.0 in
-    let R = row_at _ c.before.before.before.before.before.before.before.requires.1.1
-    c.before.before.before.before.before.before.before.requires.1.3.is_row
-    c.before.before.before.before.before.row_of.ensures in
+    (λ c κs. c.requires.1.3.is_row)
+    (λ c κs. let r = c.requires.1.0 in
+    let R = row_at _ c.requires.1.1 c.requires.1.3.is_row
+    c.row_of-i.ensures in ((ready-wf r).bounded _ R.used, r.good.sizes.room))
+    (λ c. let r = c.requires.1.0 in
+    let e = r.levels-is in let n = r.good.sizes.n_max in let h = c.requires.1.2 in omega arith)
+    (λ c κs. let r = c.requires.1.0 in
+    let R = row_at _ c.requires.1.1
+    c.requires.1.3.is_row
+    c.row_of-i.ensures in
     let o = opened (ready-wf r) R c.before.before.before.Node-at.ensures in (r, o.parts.low-arrow, o.parts.high-arrow))
-    (λ c κs. let r = c.before.before.before.before.before.before.before.before.before.before.before.requires.1.0 in
-    let R = row_at _ c.before.before.before.before.before.before.before.before.before.before.before.requires.1.1
-    c.before.before.before.before.before.before.before.before.before.before.before.requires.1.3.is_row
-    c.before.before.before.before.before.before.before.before.before.row_of.ensures in (
+    (λ c κs. let r = c.requires.1.0 in
+    let R = row_at _ c.requires.1.1
+    c.requires.1.3.is_row
+    c.row_of-i.ensures in (
       (ready-wf r).bounded _ R.used,
-      c.before.before.before.or-of.ensures.good.sizes.room,
+      c.or_of-made.ensures.good.sizes.room,
       let e = r.levels-is in
           let n = r.good.sizes.n_max in
-          let h = c.before.before.before.before.before.before.before.before.before.before.before.requires.1.2 in omega arith,
+          let h = c.requires.1.2 in omega arith,
     ))
     (λ c. search rules)
     (λ c. let r =
-    c.before.before.before.before.before.before.before.before.before.before.before.before.before.before.requires.1.0 in
+    c.requires.1.0 in
     let R = row_at _
-    c.before.before.before.before.before.before.before.before.before.before.before.before.before.before.requires.1.1
-    c.before.before.before.before.before.before.before.before.before.before.before.before.before.before.requires.1.3.is_row c.before.before.before.before.before.before.before.before.before.before.before.before.row_of.ensures in
+    c.requires.1.1
+    c.requires.1.3.is_row c.row_of-i.ensures in
     let o = opened (ready-wf r) R
     c.before.before.before.before.before.before.before.before.before.before.Node-at.ensures in
     exists-kept r _ R _
     (let e = r.levels-is in
     let n = r.good.sizes.n_max in
     let h =
-    c.before.before.before.before.before.before.before.before.before.before.before.before.before.before.requires.1.2 in
+    c.requires.1.2 in
     omega arith)
-    (rw c.before.before.before.before.before.before.before.before.if1.true at
-    (exists-own r o c.before.before.before.before.before.before.or-of.ensures)) c.before.before.remember-row.ensures)
-    (λ c κs. let r = c.before.before.before.before.before.before.before.requires.1.0 in
-    let R = row_at _ c.before.before.before.before.before.before.before.requires.1.1
-    c.before.before.before.before.before.before.before.requires.1.3.is_row
-    c.before.before.before.before.before.row_of.ensures in
+    (rw c.if-n-x.true at
+    (exists-own r o c.or_of-made.ensures)) c.remember_row.ensures)
+    (λ c κs. let r = c.requires.1.0 in
+    let R = row_at _ c.requires.1.1
+    c.requires.1.3.is_row
+    c.row_of-i.ensures in
     let o = opened (ready-wf r) R c.before.before.before.Node-at.ensures in (
-      rw (← c.before.before.before.before.before.before.before.requires.0) (part_falls _ _ (low-falls o)),
-      (r, o.parts.low-arrow, c.before.before.before.before.before.before.before.requires.1.2),
+      rw (← c.requires.0) (part_falls _ _ (low-falls o)),
+      (r, o.parts.low-arrow, c.requires.1.2),
     ))
     (λ c. search rules)
-    (λ c. let r = c.before.before.before.before.before.before.before.before.before.before.before.requires.1.0 in
-    let R = row_at _ c.before.before.before.before.before.before.before.before.before.before.before.requires.1.1
-    c.before.before.before.before.before.before.before.before.before.before.before.requires.1.3.is_row
-    c.before.before.before.before.before.before.before.before.before.row_of.ensures in
+    (λ c. let r = c.requires.1.0 in
+    let R = row_at _ c.requires.1.1
+    c.requires.1.3.is_row
+    c.row_of-i.ensures in
     let o = opened (ready-wf r) R c.before.before.before.before.before.before.before.Node-at.ensures in
     let D = exists-calls r o _
-    (let t = reached c.before.before.before.before.before.before.before.before.before.before.before.requires.1.3
-    c.before.before.before.before.before.before.before.before.before.row_of.ensures
+    (let t = reached c.requires.1.3
+    c.row_of-i.ensures
     c.before.before.before.before.before.before.before.Node-at.ensures in
-    let u = c.before.before.before.before.before.if1.false in omega arith) in
-    low_stops r D c.if2.true c.before.before.before.exists-part.ensures)
-    (λ c κs. let r = c.before.before.before.before.before.before.before.before.before.before.before.before.requires.1.0 in
-    let R = row_at _ c.before.before.before.before.before.before.before.before.before.before.before.before.requires.1.1
-    c.before.before.before.before.before.before.before.before.before.before.before.before.requires.1.3.is_row
-    c.before.before.before.before.before.before.before.before.before.before.row_of.ensures in
+    let u = c.if-n-x.false in omega arith) in
+    low_stops r D c.if-low.true c.exists_part-low.ensures)
+    (λ c κs. let r = c.requires.1.0 in
+    let R = row_at _ c.requires.1.1
+    c.requires.1.3.is_row
+    c.row_of-i.ensures in
     let o = opened (ready-wf r) R c.before.before.before.before.before.before.before.before.Node-at.ensures in
-    let w = c.before.before.before.before.exists-part.ensures in (
-      rw (← c.before.before.before.before.before.before.before.before.before.before.before.before.requires.0)
+    let w = c.exists_part-low.ensures in (
+      rw (← c.requires.0)
           (part_falls _ _ (high-falls o w.post.kept)),
       (
         ready-next r w,
         high-later o w.post.kept,
-        c.before.before.before.before.before.before.before.before.before.before.before.before.requires.1.2,
+        c.requires.1.2,
       ),
     ))
     (λ c. search rules)
     (λ c. let r =
-    c.before.before.before.before.before.before.before.before.before.before.before.before.before.before.before.before.requires.1.0 in let R =
+    c.requires.1.0 in let R =
     row_at _
-    c.before.before.before.before.before.before.before.before.before.before.before.before.before.before.before.before.requires.1.1
-    c.before.before.before.before.before.before.before.before.before.before.before.before.before.before.before.before.requires.1.3.is_row
-    c.before.before.before.before.before.before.before.before.before.before.before.before.before.before.row_of.ensures in
+    c.requires.1.1
+    c.requires.1.3.is_row
+    c.row_of-i.ensures in
     let o = opened (ready-wf r) R
     c.before.before.before.before.before.before.before.before.before.before.before.before.Node-at.ensures in
     let D = exists-calls r o _
     (let t =
     reached
-    c.before.before.before.before.before.before.before.before.before.before.before.before.before.before.before.before.requires.1.3
-    c.before.before.before.before.before.before.before.before.before.before.before.before.before.before.row_of.ensures
+    c.requires.1.3
+    c.row_of-i.ensures
     c.before.before.before.before.before.before.before.before.before.before.before.before.Node-at.ensures in
-    let u = c.before.before.before.before.before.before.before.before.before.before.if1.false in omega arith) in
-    high_stops r D c.before.before.before.before.before.if2.false
-    c.before.before.before.before.before.before.before.before.exists-part.ensures c.if3.true
-    c.before.before.before.exists-part2.ensures)
+    let u = c.if-n-x.false in omega arith) in
+    high_stops r D c.if-low.false
+    c.exists_part-low.ensures c.if-high.true
+    c.exists_part-high.ensures)
     (λ c κs. let r =
-    c.before.before.before.before.before.before.before.before.before.before.before.before.before.before.before.before.before.requires.1.0 in let R =
+    c.requires.1.0 in let R =
     row_at _
-    c.before.before.before.before.before.before.before.before.before.before.before.before.before.before.before.before.before.requires.1.1
-    c.before.before.before.before.before.before.before.before.before.before.before.before.before.before.before.before.before.requires.1.3.is_row
-    c.before.before.before.before.before.before.before.before.before.before.before.before.before.before.before.row_of.ensures in
+    c.requires.1.1
+    c.requires.1.3.is_row
+    c.row_of-i.ensures in
     let o = opened (ready-wf r) R
     c.before.before.before.before.before.before.before.before.before.before.before.before.before.Node-at.ensures in
     let D = exists-calls r o _
     (let t =
     reached
-    c.before.before.before.before.before.before.before.before.before.before.before.before.before.before.before.before.before.requires.1.3
-    c.before.before.before.before.before.before.before.before.before.before.before.before.before.before.before.row_of.ensures
+    c.requires.1.3
+    c.row_of-i.ensures
     c.before.before.before.before.before.before.before.before.before.before.before.before.before.Node-at.ensures in
-    let u = c.before.before.before.before.before.before.before.before.before.before.before.if1.false in omega arith) in
-    row-pre r D c.before.before.before.before.before.before.if2.false
-    c.before.before.before.before.before.before.before.before.before.exists-part.ensures c.before.if3.false
-    c.before.before.before.before.exists-part2.ensures)
+    let u = c.if-n-x.false in omega arith) in
+    row-pre r D c.if-low.false
+    c.exists_part-low.ensures c.if-high.false
+    c.exists_part-high.ensures)
     (λ c κs. let r =
-    c.before.before.before.before.before.before.before.before.before.before.before.before.before.before.before.before.before.before.before.before.before.requires.1.0 in let R =
+    c.requires.1.0 in let R =
     row_at _
-    c.before.before.before.before.before.before.before.before.before.before.before.before.before.before.before.before.before.before.before.before.before.requires.1.1
-    c.before.before.before.before.before.before.before.before.before.before.before.before.before.before.before.before.before.before.before.before.before.requires.1.3.is_row
-    c.before.before.before.before.before.before.before.before.before.before.before.before.before.before.before.before.before.before.before.row_of.ensures in (
+    c.requires.1.1
+    c.requires.1.3.is_row
+    c.row_of-i.ensures in (
       (ready-wf r).bounded _ R.used,
-      c.before.before.before.make.ensures.good.sizes.room,
+      c.make-made.ensures.good.sizes.room,
       let e = r.levels-is in
           let n = r.good.sizes.n_max in
           let h =
-          c.before.before.before.before.before.before.before.before.before.before.before.before.before.before.before.before.before.before.before.before.before.requires.1.2 in omega arith,
+          c.requires.1.2 in omega arith,
     ))
     (λ c. search rules)
     (λ c. let r =
-    c.before.before.before.before.before.before.before.before.before.before.before.before.before.before.before.before.before.before.before.before.before.before.before.before.requires.1.0 in let R =
+    c.requires.1.0 in let R =
     row_at _
-    c.before.before.before.before.before.before.before.before.before.before.before.before.before.before.before.before.before.before.before.before.before.before.before.before.requires.1.1
-    c.before.before.before.before.before.before.before.before.before.before.before.before.before.before.before.before.before.before.before.before.before.before.before.before.requires.1.3.is_row
-    c.before.before.before.before.before.before.before.before.before.before.before.before.before.before.before.before.before.before.before.before.before.before.row_of.ensures in
+    c.requires.1.1
+    c.requires.1.3.is_row
+    c.row_of-i.ensures in
     let o = opened (ready-wf r) R
     c.before.before.before.before.before.before.before.before.before.before.before.before.before.before.before.before.before.before.before.before.Node-at.ensures in
     let D = exists-calls r o _
     (let t =
     reached
-    c.before.before.before.before.before.before.before.before.before.before.before.before.before.before.before.before.before.before.before.before.before.before.before.before.requires.1.3
-    c.before.before.before.before.before.before.before.before.before.before.before.before.before.before.before.before.before.before.before.before.before.before.row_of.ensures
+    c.requires.1.3
+    c.row_of-i.ensures
     c.before.before.before.before.before.before.before.before.before.before.before.before.before.before.before.before.before.before.before.before.Node-at.ensures in
     let u =
-    c.before.before.before.before.before.before.before.before.before.before.before.before.before.before.before.before.before.before.if1.false in omega arith) in
+    c.if-n-x.false in omega arith) in
     exists-kept r _ R _
     (let e = r.levels-is in
     let n = r.good.sizes.n_max in
     let h =
-    c.before.before.before.before.before.before.before.before.before.before.before.before.before.before.before.before.before.before.before.before.before.before.before.before.requires.1.2 in omega arith)
-    (row_made r D c.before.before.before.before.before.before.before.before.before.before.before.before.before.if2.false
-    c.before.before.before.before.before.before.before.before.before.before.before.before.before.before.before.before.exists-part.ensures c.before.before.before.before.before.before.before.before.if3.false
-    c.before.before.before.before.before.before.before.before.before.before.before.exists-part2.ensures
-    c.before.before.before.before.before.before.make.ensures) c.before.before.remember-row2.ensures)
+    c.requires.1.2 in omega arith)
+    (row_made r D c.if-low.false
+    c.exists_part-low.ensures c.if-high.false
+    c.exists_part-high.ensures
+    c.make-made.ensures) c.remember_row-2.ensures)

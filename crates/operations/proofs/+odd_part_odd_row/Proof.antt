@@ -51,22 +51,22 @@ pub +odd_part_odd_row_spec : {M : Type 1} → statement M
 )
     (odd_part-at t)
     odd_part.Post
-    (λ c κs. (ready-look c.before.before.requires.1.0, c.before.before.requires.1.1))
+    (λ c κs. (ready-look c.requires.1.0, c.requires.1.1))
     (λ c. search rules)
     (λ c. search rules)
-    (λ c. odd-there c.before.before.before.before.before.before.requires.1.0 c.before.known.given.1
-    c.before.before.before.odd-known.ensures)
+    (λ c. odd-there c.requires.1.0 c.in-At.is
+    c.odd_known-known.ensures)
     (λ c. search rules)
     (λ c κs. (
-      rw (← c.before.before.before.before.before.before.requires.0) (omega arith),
+      rw (← c.requires.0) (omega arith),
       (
-        c.before.before.before.before.before.before.requires.1.0,
-        c.before.before.before.before.before.before.requires.1.1,
-        c.before.before.before.odd-known.ensures.none c.before.enum_told.given.1,
+        c.requires.1.0,
+        c.requires.1.1,
+        c.odd_known-known.ensures.none c.in_default.is,
       ),
     ))
     (λ c. search rules)
-    (λ c. c.before.before.odd-row.ensures))
+    (λ c. c.odd_row.ensures))
     λ t. odd-row-lts.spec (
       row-of-reads.Asked,
       row-of-reads.Learnt,
@@ -81,80 +81,80 @@ pub +odd_part_odd_row_spec : {M : Type 1} → statement M
     )
     (odd_row-at t)
     odd-row.Post
-    (λ c κs. c.before.requires.1.2)
-    (λ c κs. let r = c.before.before.before.requires.1.0 in
-    let R = row_at _ c.before.before.before.requires.1.1 c.before.before.before.requires.1.2 c.before.row_of.ensures in
+    (λ c κs. c.requires.1.2)
+    (λ c κs. let r = c.requires.1.0 in
+    let R = row_at _ c.requires.1.1 c.requires.1.2 c.row_of-i.ensures in
     ((ready-wf r).bounded _ R.used, r.good.sizes.room))
-    (λ c κs. let r = c.before.before.before.before.before.requires.1.0 in
-    let R = row_at _ c.before.before.before.before.before.requires.1.1 c.before.before.before.before.before.requires.1.2
-    c.before.before.before.row_of.ensures in
+    (λ c κs. let r = c.requires.1.0 in
+    let R = row_at _ c.requires.1.1 c.requires.1.2
+    c.row_of-i.ensures in
     let o = opened (ready-wf r) R c.before.Node-at.ensures in
-    (rw (← c.before.before.before.before.before.requires.0) (part_falls _ _ (low-falls o)), (r, o.parts.low-arrow)))
+    (rw (← c.requires.0) (part_falls _ _ (low-falls o)), (r, o.parts.low-arrow)))
     (λ c. search rules)
-    (λ c. let r = c.before.before.before.before.before.before.before.before.before.requires.1.0 in
-    let R = row_at _ c.before.before.before.before.before.before.before.before.before.requires.1.1
-    c.before.before.before.before.before.before.before.before.before.requires.1.2
-    c.before.before.before.before.before.before.before.row_of.ensures in
+    (λ c. let r = c.requires.1.0 in
+    let R = row_at _ c.requires.1.1
+    c.requires.1.2
+    c.row_of-i.ensures in
     let o = opened (ready-wf r) R c.before.before.before.before.before.Node-at.ensures in
-    odd_low_stops r o c.before.before.before.odd_part.ensures)
-    (λ c κs. let r = c.before.before.before.before.before.before.before.before.before.before.requires.1.0 in
-    let R = row_at _ c.before.before.before.before.before.before.before.before.before.before.requires.1.1
-    c.before.before.before.before.before.before.before.before.before.before.requires.1.2
-    c.before.before.before.before.before.before.before.before.row_of.ensures in
+    odd_low_stops r o c.odd_part-low.ensures)
+    (λ c κs. let r = c.requires.1.0 in
+    let R = row_at _ c.requires.1.1
+    c.requires.1.2
+    c.row_of-i.ensures in
     let o = opened (ready-wf r) R c.before.before.before.before.before.before.Node-at.ensures in
-    let w = c.before.before.before.before.odd_part.ensures in (
-      rw (← c.before.before.before.before.before.before.before.before.before.before.requires.0)
+    let w = c.odd_part-low.ensures in (
+      rw (← c.requires.0)
           (part_falls _ _ (high-falls o w.grown.kept)),
-      odd-high-pre r o c.before.if1.false w,
+      odd-high-pre r o c.if-low.false w,
     ))
     (λ c. search rules)
     (λ c. let r =
-    c.before.before.before.before.before.before.before.before.before.before.before.before.before.before.requires.1.0 in
+    c.requires.1.0 in
     let R = row_at _
-    c.before.before.before.before.before.before.before.before.before.before.before.before.before.before.requires.1.1
-    c.before.before.before.before.before.before.before.before.before.before.before.before.before.before.requires.1.2
-    c.before.before.before.before.before.before.before.before.before.before.before.before.row_of.ensures in
+    c.requires.1.1
+    c.requires.1.2
+    c.row_of-i.ensures in
     let o = opened (ready-wf r) R
     c.before.before.before.before.before.before.before.before.before.before.Node-at.ensures in
-    odd_high_stops r o c.before.before.before.before.before.if1.false
-    c.before.before.before.before.before.before.before.before.odd_part.ensures
-    c.before.before.before.odd-part2.ensures)
+    odd_high_stops r o c.if-low.false
+    c.odd_part-low.ensures
+    c.odd_part-high.ensures)
     (λ c κs. let r =
-    c.before.before.before.before.before.before.before.before.before.before.before.before.before.before.before.requires.1.0 in let R =
+    c.requires.1.0 in let R =
     row_at _
-    c.before.before.before.before.before.before.before.before.before.before.before.before.before.before.before.requires.1.1 c.before.before.before.before.before.before.before.before.before.before.before.before.before.before.before.requires.1.2 c.before.before.before.before.before.before.before.before.before.before.before.before.before.row_of.ensures in
+    c.requires.1.1 c.requires.1.2 c.row_of-i.ensures in
     let o = opened (ready-wf r) R
     c.before.before.before.before.before.before.before.before.before.before.before.Node-at.ensures in
-    odd_join-pre r o c.before.before.before.before.before.before.if1.false
-    c.before.before.before.before.before.before.before.before.before.odd_part.ensures c.before.if2.false
-    c.before.before.before.before.odd-part2.ensures)
+    odd_join-pre r o c.if-low.false
+    c.odd_part-low.ensures c.if-high.false
+    c.odd_part-high.ensures)
     (λ c κs. let r =
-    c.before.before.before.before.before.before.before.before.before.before.before.before.before.before.before.before.before.before.before.requires.1.0 in let R =
+    c.requires.1.0 in let R =
     row_at _
-    c.before.before.before.before.before.before.before.before.before.before.before.before.before.before.before.before.before.before.before.requires.1.1
-    c.before.before.before.before.before.before.before.before.before.before.before.before.before.before.before.before.before.before.before.requires.1.2
-    c.before.before.before.before.before.before.before.before.before.before.before.before.before.before.before.before.before.row_of.ensures in
+    c.requires.1.1
+    c.requires.1.2
+    c.row_of-i.ensures in
     let o = opened (ready-wf r) R
     c.before.before.before.before.before.before.before.before.before.before.before.before.before.before.before.Node-at.ensures in
-    let w = odd-joined r o c.before.before.before.before.before.before.before.before.before.before.if1.false
-    c.before.before.before.before.before.before.before.before.before.before.before.before.before.odd_part.ensures
-    c.before.before.before.before.before.if2.false
-    c.before.before.before.before.before.before.before.before.odd-part2.ensures
-    c.before.before.before.odd-join.ensures in ((ready-wf r).bounded _ R.used, w.good.sizes.room, omega arith))
+    let w = odd-joined r o c.if-low.false
+    c.odd_part-low.ensures
+    c.if-high.false
+    c.odd_part-high.ensures
+    c.odd_join-made.ensures in ((ready-wf r).bounded _ R.used, w.good.sizes.room, omega arith))
     (λ c. search rules)
     (λ c. let r =
-    c.before.before.before.before.before.before.before.before.before.before.before.before.before.before.before.before.before.before.before.before.before.before.requires.1.0 in let R =
+    c.requires.1.0 in let R =
     row_at _
-    c.before.before.before.before.before.before.before.before.before.before.before.before.before.before.before.before.before.before.before.before.before.before.requires.1.1
-    c.before.before.before.before.before.before.before.before.before.before.before.before.before.before.before.before.before.before.before.before.before.before.requires.1.2
-    c.before.before.before.before.before.before.before.before.before.before.before.before.before.before.before.before.before.before.before.before.row_of.ensures in
+    c.requires.1.1
+    c.requires.1.2
+    c.row_of-i.ensures in
     let o = opened (ready-wf r) R
     c.before.before.before.before.before.before.before.before.before.before.before.before.before.before.before.before.before.before.Node-at.ensures in
-    odd-kept r o c.before.before.before.before.before.before.before.before.before.before.before.before.before.if1.false
-    c.before.before.before.before.before.before.before.before.before.before.before.before.before.before.before.before.odd_part.ensures c.before.before.before.before.before.before.before.before.if2.false
-    c.before.before.before.before.before.before.before.before.before.before.before.odd-part2.ensures _
+    odd-kept r o c.if-low.false
+    c.odd_part-low.ensures c.if-high.false
+    c.odd_part-high.ensures _
     (odd-joined r o
-    c.before.before.before.before.before.before.before.before.before.before.before.before.before.if1.false
-    c.before.before.before.before.before.before.before.before.before.before.before.before.before.before.before.before.odd_part.ensures c.before.before.before.before.before.before.before.before.if2.false
-    c.before.before.before.before.before.before.before.before.before.before.before.odd-part2.ensures
-    c.before.before.before.before.before.before.odd-join.ensures) c.before.before.remember-row.ensures)
+    c.if-low.false
+    c.odd_part-low.ensures c.if-high.false
+    c.odd_part-high.ensures
+    c.odd_join-made.ensures) c.remember_row.ensures)

@@ -61,31 +61,31 @@ pub +or_part_or_rows_spec : {M : Type 1} → statement M
     (or_part-at t)
     or-part.Post
     (λ c κs. search rules)
-    (λ c κs. let r = c.before.before.before.requires.1.0 in (ready-room r, r.memory.sizes))
+    (λ c κs. let r = c.requires.1.0 in (ready-room r, r.memory.sizes))
     (λ c. search rules)
     (λ c. search rules)
-    (λ c. let r = c.before.before.before.before.before.before.before.requires.1.0 in
-    let S = sorted_swap _ _ c.before.before.before.before.before.sort.ensures.0
-    c.before.before.before.before.before.sort.ensures.1 in
-    let U = swap-arrows r S c.before.before.before.before.before.before.before.requires.1.1
-    c.before.before.before.before.before.before.before.requires.1.2 in
-    or-swapped r S (or_known_lem r U c.before.found.given.1 c.before.before.before.or_known_lem.ensures))
+    (λ c. let r = c.requires.1.0 in
+    let S = sorted_swap _ _ c.sort-p.ensures.0
+    c.sort-p.ensures.1 in
+    let U = swap-arrows r S c.requires.1.1
+    c.requires.1.2 in
+    or-swapped r S (or_known_lem r U c.in-At.is c.or_known-found.ensures))
     (λ c. search rules)
-    (λ c κs. let r = c.before.before.before.before.before.before.before.requires.1.0 in
-    let S = sorted_swap _ _ c.before.before.before.before.before.sort.ensures.0
-    c.before.before.before.before.before.sort.ensures.1 in
-    let U = swap-arrows r S c.before.before.before.before.before.before.before.requires.1.1
-    c.before.before.before.before.before.before.before.requires.1.2 in
-    let p = c.before.before.before.before.before.sort.ensures.0 in
-    let q = c.before.before.before.before.before.sort.ensures.1 in
-    let B = or-none _ _ (omega arith) c.before.enum_told.given.1 c.before.before.before.or_known_lem.ensures in
+    (λ c κs. let r = c.requires.1.0 in
+    let S = sorted_swap _ _ c.sort-p.ensures.0
+    c.sort-p.ensures.1 in
+    let U = swap-arrows r S c.requires.1.1
+    c.requires.1.2 in
+    let p = c.sort-p.ensures.0 in
+    let q = c.sort-p.ensures.1 in
+    let B = or-none _ _ (omega arith) c.in_default.is c.or_known-found.ensures in
     let e = swap-depth r S in
-    (rw (← c.before.before.before.before.before.before.before.requires.0) (omega arith), (r, U.0, U.1, B)))
+    (rw (← c.requires.0) (omega arith), (r, U.0, U.1, B)))
     (λ c. search rules)
-    (λ c. let r = c.before.before.before.before.before.before.before.before.before.before.requires.1.0 in
-    let S = sorted_swap _ _ c.before.before.before.before.before.before.before.before.sort.ensures.0
-    c.before.before.before.before.before.before.before.before.sort.ensures.1 in
-    or-swapped r S c.before.before.or-rows.ensures))
+    (λ c. let r = c.requires.1.0 in
+    let S = sorted_swap _ _ c.sort-p.ensures.0
+    c.sort-p.ensures.1 in
+    or-swapped r S c.or_rows.ensures))
     λ t. or-rows-lts.spec (
       top-reads.Asked,
       top-reads.Learnt,
@@ -100,133 +100,133 @@ pub +or_part_or_rows_spec : {M : Type 1} → statement M
     )
     (or-rows_at t)
     or-rows.Post
-    (λ c κs. let r = c.before.before.requires.1.0 in
-    let B = c.before.before.requires.1.3 in
-    let w = both-within r (c.before.before.requires.1.1, c.before.before.requires.1.2) B in (B, w.0, w.1, r.good.sizes.room))
-    (λ c κs. let r = c.before.before.before.before.requires.1.0 in
-    let B = c.before.before.before.before.requires.1.3 in
-    let w = both-within r (c.before.before.before.before.requires.1.1, c.before.before.before.before.requires.1.2) B in
+    (λ c κs. let r = c.requires.1.0 in
+    let B = c.requires.1.3 in
+    let w = both-within r (c.requires.1.1, c.requires.1.2) B in (B, w.0, w.1, r.good.sizes.room))
+    (λ c κs. let r = c.requires.1.0 in
+    let B = c.requires.1.3 in
+    let w = both-within r (c.requires.1.1, c.requires.1.2) B in
     (B.left, w.0, r.good.sizes.room))
-    (λ c κs. let r = c.before.before.before.before.before.before.requires.1.0 in
-    let B = c.before.before.before.before.before.before.requires.1.3 in
+    (λ c κs. let r = c.requires.1.0 in
+    let B = c.requires.1.3 in
     let w = both-within r
-    (c.before.before.before.before.before.before.requires.1.1, c.before.before.before.before.before.before.requires.1.2) B in
+    (c.requires.1.1, c.requires.1.2) B in
     (B.right, w.1, r.good.sizes.room))
-    (λ c κs. let r = c.before.before.before.before.before.before.before.before.requires.1.0 in
-    let B = c.before.before.before.before.before.before.before.before.requires.1.3 in
+    (λ c κs. let r = c.requires.1.0 in
+    let B = c.requires.1.3 in
     let T = split _ _ (ready-wf r) (
-      c.before.before.before.before.before.before.before.before.requires.1.1,
-      c.before.before.before.before.before.before.before.before.requires.1.2,
+      c.requires.1.1,
+      c.requires.1.2,
     ) B
-    c.before.before.before.before.before.top.ensures c.before.before.before.halve.ensures
-    c.before.halve2.ensures in (
-      rw (← c.before.before.before.before.before.before.before.before.requires.0) (part_falls _ _ (pair-low-falls T)),
+    c.top-level.ensures c.halve-x.ensures
+    c.halve-y.ensures in (
+      rw (← c.requires.0) (part_falls _ _ (pair-low-falls T)),
       (r, T.left.low-arrow, T.right.low-arrow),
     ))
     (λ c. search rules)
-    (λ c. let r = c.before.before.before.before.before.before.before.before.before.before.before.before.requires.1.0 in
-    let B = c.before.before.before.before.before.before.before.before.before.before.before.before.requires.1.3 in
+    (λ c. let r = c.requires.1.0 in
+    let B = c.requires.1.3 in
     let T = split _ _ (ready-wf r) (
-      c.before.before.before.before.before.before.before.before.before.before.before.before.requires.1.1,
-      c.before.before.before.before.before.before.before.before.before.before.before.before.requires.1.2,
+      c.requires.1.1,
+      c.requires.1.2,
     ) B
-    c.before.before.before.before.before.before.before.before.before.top.ensures
-    c.before.before.before.before.before.before.before.halve.ensures
-    c.before.before.before.before.before.halve2.ensures in
+    c.top-level.ensures
+    c.halve-x.ensures
+    c.halve-y.ensures in
     let D = or-calls r (
-      c.before.before.before.before.before.before.before.before.before.before.before.before.requires.1.1,
-      c.before.before.before.before.before.before.before.before.before.before.before.before.requires.1.2,
+      c.requires.1.1,
+      c.requires.1.2,
     ) T in
-    low_stops r D c.if1.true c.before.before.before.or-part.ensures)
-    (λ c κs. let r = c.before.before.before.before.before.before.before.before.before.before.before.before.before.requires.1.0 in
-    let B = c.before.before.before.before.before.before.before.before.before.before.before.before.before.requires.1.3 in
+    low_stops r D c.if-low.true c.or_part-low.ensures)
+    (λ c κs. let r = c.requires.1.0 in
+    let B = c.requires.1.3 in
     let T = split _ _ (ready-wf r) (
-      c.before.before.before.before.before.before.before.before.before.before.before.before.before.requires.1.1,
-      c.before.before.before.before.before.before.before.before.before.before.before.before.before.requires.1.2,
+      c.requires.1.1,
+      c.requires.1.2,
     ) B
-    c.before.before.before.before.before.before.before.before.before.before.top.ensures
-    c.before.before.before.before.before.before.before.before.halve.ensures
-    c.before.before.before.before.before.before.halve2.ensures in
-    let w = c.before.before.before.before.or-part.ensures in
+    c.top-level.ensures
+    c.halve-x.ensures
+    c.halve-y.ensures in
+    let w = c.or_part-low.ensures in
     let h = pair-high-later T w.post.kept in (
-      rw (← c.before.before.before.before.before.before.before.before.before.before.before.before.before.requires.0)
+      rw (← c.requires.0)
           (part_falls _ _ (pair-high-falls T w.post.kept)),
       (ready-next r w, h.0, h.1),
     ))
     (λ c. search rules)
     (λ c. let r =
-    c.before.before.before.before.before.before.before.before.before.before.before.before.before.before.before.before.before.requires.1.0 in let B =
-    c.before.before.before.before.before.before.before.before.before.before.before.before.before.before.before.before.before.requires.1.3 in let T =
+    c.requires.1.0 in let B =
+    c.requires.1.3 in let T =
     split _ _ (ready-wf r) (
-      c.before.before.before.before.before.before.before.before.before.before.before.before.before.before.before.before.before.requires.1.1,
-      c.before.before.before.before.before.before.before.before.before.before.before.before.before.before.before.before.before.requires.1.2,
+      c.requires.1.1,
+      c.requires.1.2,
     ) B
-    c.before.before.before.before.before.before.before.before.before.before.before.before.before.before.top.ensures
-    c.before.before.before.before.before.before.before.before.before.before.before.before.halve.ensures
-    c.before.before.before.before.before.before.before.before.before.before.halve2.ensures in
+    c.top-level.ensures
+    c.halve-x.ensures
+    c.halve-y.ensures in
     let D = or-calls r (
-      c.before.before.before.before.before.before.before.before.before.before.before.before.before.before.before.before.before.requires.1.1,
-      c.before.before.before.before.before.before.before.before.before.before.before.before.before.before.before.before.before.requires.1.2,
+      c.requires.1.1,
+      c.requires.1.2,
     ) T in
-    high_stops r D c.before.before.before.before.before.if1.false
-    c.before.before.before.before.before.before.before.before.or-part.ensures c.if2.true
-    c.before.before.before.or-part2.ensures)
+    high_stops r D c.if-low.false
+    c.or_part-low.ensures c.if-high.true
+    c.or_part-high.ensures)
     (λ c κs. let r =
-    c.before.before.before.before.before.before.before.before.before.before.before.before.before.before.before.before.before.before.requires.1.0 in let B =
-    c.before.before.before.before.before.before.before.before.before.before.before.before.before.before.before.before.before.before.requires.1.3 in let T =
+    c.requires.1.0 in let B =
+    c.requires.1.3 in let T =
     split _ _ (ready-wf r) (
-      c.before.before.before.before.before.before.before.before.before.before.before.before.before.before.before.before.before.before.requires.1.1,
-      c.before.before.before.before.before.before.before.before.before.before.before.before.before.before.before.before.before.before.requires.1.2,
+      c.requires.1.1,
+      c.requires.1.2,
     ) B
-    c.before.before.before.before.before.before.before.before.before.before.before.before.before.before.before.top.ensures
-    c.before.before.before.before.before.before.before.before.before.before.before.before.before.halve.ensures
-    c.before.before.before.before.before.before.before.before.before.before.before.halve2.ensures in
+    c.top-level.ensures
+    c.halve-x.ensures
+    c.halve-y.ensures in
     let D = or-calls r (
-      c.before.before.before.before.before.before.before.before.before.before.before.before.before.before.before.before.before.before.requires.1.1,
-      c.before.before.before.before.before.before.before.before.before.before.before.before.before.before.before.before.before.before.requires.1.2,
+      c.requires.1.1,
+      c.requires.1.2,
     ) T in
-    row-pre r D c.before.before.before.before.before.before.if1.false
-    c.before.before.before.before.before.before.before.before.before.or-part.ensures c.before.if2.false
-    c.before.before.before.before.or-part2.ensures)
+    row-pre r D c.if-low.false
+    c.or_part-low.ensures c.if-high.false
+    c.or_part-high.ensures)
     (λ c κs. let r =
-    c.before.before.before.before.before.before.before.before.before.before.before.before.before.before.before.before.before.before.before.before.before.before.requires.1.0 in let B =
-    c.before.before.before.before.before.before.before.before.before.before.before.before.before.before.before.before.before.before.before.before.before.before.requires.1.3 in let T =
+    c.requires.1.0 in let B =
+    c.requires.1.3 in let T =
     split _ _ (ready-wf r) (
-      c.before.before.before.before.before.before.before.before.before.before.before.before.before.before.before.before.before.before.before.before.before.before.requires.1.1,
-      c.before.before.before.before.before.before.before.before.before.before.before.before.before.before.before.before.before.before.before.before.before.before.requires.1.2,
+      c.requires.1.1,
+      c.requires.1.2,
     ) B
-    c.before.before.before.before.before.before.before.before.before.before.before.before.before.before.before.before.before.before.before.top.ensures
-    c.before.before.before.before.before.before.before.before.before.before.before.before.before.before.before.before.before.halve.ensures
-    c.before.before.before.before.before.before.before.before.before.before.before.before.before.before.before.halve2.ensures in
+    c.top-level.ensures
+    c.halve-x.ensures
+    c.halve-y.ensures in
     let D = or-calls r (
-      c.before.before.before.before.before.before.before.before.before.before.before.before.before.before.before.before.before.before.before.before.before.before.requires.1.1,
-      c.before.before.before.before.before.before.before.before.before.before.before.before.before.before.before.before.before.before.before.before.before.before.requires.1.2,
+      c.requires.1.1,
+      c.requires.1.2,
     ) T in
-    let w = row_made r D c.before.before.before.before.before.before.before.before.before.before.if1.false
-    c.before.before.before.before.before.before.before.before.before.before.before.before.before.or-part.ensures
-    c.before.before.before.before.before.if2.false
-    c.before.before.before.before.before.before.before.before.or-part2.ensures
-    c.before.before.before.make.ensures in (good-room _ w.good, w.memory.sizes))
+    let w = row_made r D c.if-low.false
+    c.or_part-low.ensures
+    c.if-high.false
+    c.or_part-high.ensures
+    c.make-made.ensures in (good-room _ w.good, w.memory.sizes))
     (λ c. search rules)
     (λ c. let r =
-    c.before.before.before.before.before.before.before.before.before.before.before.before.before.before.before.before.before.before.before.before.before.before.before.before.before.requires.1.0 in let B =
-    c.before.before.before.before.before.before.before.before.before.before.before.before.before.before.before.before.before.before.before.before.before.before.before.before.before.requires.1.3 in let T =
+    c.requires.1.0 in let B =
+    c.requires.1.3 in let T =
     split _ _ (ready-wf r) (
-      c.before.before.before.before.before.before.before.before.before.before.before.before.before.before.before.before.before.before.before.before.before.before.before.before.before.requires.1.1,
-      c.before.before.before.before.before.before.before.before.before.before.before.before.before.before.before.before.before.before.before.before.before.before.before.before.before.requires.1.2,
+      c.requires.1.1,
+      c.requires.1.2,
     ) B
-    c.before.before.before.before.before.before.before.before.before.before.before.before.before.before.before.before.before.before.before.before.before.before.top.ensures
-    c.before.before.before.before.before.before.before.before.before.before.before.before.before.before.before.before.before.before.before.before.halve.ensures
-    c.before.before.before.before.before.before.before.before.before.before.before.before.before.before.before.before.before.before.halve2.ensures in
+    c.top-level.ensures
+    c.halve-x.ensures
+    c.halve-y.ensures in
     let D = or-calls r (
-      c.before.before.before.before.before.before.before.before.before.before.before.before.before.before.before.before.before.before.before.before.before.before.before.before.before.requires.1.1,
-      c.before.before.before.before.before.before.before.before.before.before.before.before.before.before.before.before.before.before.before.before.before.before.before.before.before.requires.1.2,
+      c.requires.1.1,
+      c.requires.1.2,
     ) T in
     or_kept r (
-      c.before.before.before.before.before.before.before.before.before.before.before.before.before.before.before.before.before.before.before.before.before.before.before.before.before.requires.1.1,
-      c.before.before.before.before.before.before.before.before.before.before.before.before.before.before.before.before.before.before.before.before.before.before.before.before.before.requires.1.2,
+      c.requires.1.1,
+      c.requires.1.2,
     )
-    (row_made r D c.before.before.before.before.before.before.before.before.before.before.before.before.before.if1.false
-    c.before.before.before.before.before.before.before.before.before.before.before.before.before.before.before.before.or-part.ensures c.before.before.before.before.before.before.before.before.if2.false
-    c.before.before.before.before.before.before.before.before.before.before.before.or-part2.ensures
-    c.before.before.before.before.before.before.make.ensures) c.before.before.remember-or.ensures)
+    (row_made r D c.if-low.false
+    c.or_part-low.ensures c.if-high.false
+    c.or_part-high.ensures
+    c.make-made.ensures) c.remember_or.ensures)

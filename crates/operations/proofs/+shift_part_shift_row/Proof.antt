@@ -61,31 +61,31 @@ pub +shift_part_shift_row_spec : {M : Type 1} → statement M
 )
     (shift_part-at t)
     shift-part.Post
-    (λ c κs. (ready-look c.before.before.requires.1.0, c.before.before.requires.1.1))
+    (λ c κs. (ready-look c.requires.1.0, c.requires.1.1))
     (λ c. search rules)
     (λ c. search rules)
-    (λ c. worked_there c.before.before.before.before.before.before.requires.1.0
-    (c.before.before.before.shift-known.ensures.at _ c.before.known.given.1))
+    (λ c. worked_there c.requires.1.0
+    (c.shift_known-known.ensures.at _ c.in-At.is))
     (λ c. search rules)
     (λ c κs. search rules)
-    (λ c κs. let a = c.before.before.before.before.before.before.before.args.a in
+    (λ c κs. let a = c.args.a in
     let e = c.carry.ensures in
-    let d = plain-depth a e c.before.before.before.before.before.before.before.requires.1.0 in (
-      rw (← c.before.before.before.before.before.before.before.requires.0) (omega (arith, d)),
+    let d = plain-depth a e c.requires.1.0 in (
+      rw (← c.requires.0) (omega (arith, d)),
       (
-        c.before.before.before.before.before.before.before.requires.1.0,
-        plain-arrow a e c.before.before.before.before.before.before.before.requires.1.0
-            c.before.before.before.before.before.before.before.requires.1.1,
-        plain_reads a e c.before.before.before.before.before.before.before.requires.1.0
-            c.before.before.before.before.before.before.before.requires.1.2,
-        plain_row a e (c.before.before.before.before.shift-known.ensures.none c.before.before.enum_told.given.1),
+        c.requires.1.0,
+        plain-arrow a e c.requires.1.0
+            c.requires.1.1,
+        plain_reads a e c.requires.1.0
+            c.requires.1.2,
+        plain_row a e (c.shift_known-known.ensures.none c.in_default.is),
         plain-mark a e,
       ),
     ))
     (λ c κs. search rules)
     (λ c. search rules)
-    (λ c. shift-carried c.before.before.before.before.before.before.before.before.before.before.before.args.a
-    c.before.before.before.before.carry.ensures c.before.before.before.shift-row.ensures c.carry-made.ensures))
+    (λ c. shift-carried c.args.a
+    c.carry.ensures c.shift_row-made.ensures c.carry_made.ensures))
     λ t. shift-row-lts.spec (
       row-of-reads.Asked,
       row-of-reads.Learnt,
@@ -100,109 +100,109 @@ pub +shift_part_shift_row_spec : {M : Type 1} → statement M
     )
     (shift_row-at t)
     shift-row.Post
-    (λ c κs. c.before.requires.1.3)
-    (λ c κs. let r = c.before.before.before.requires.1.0 in
-    let R = row_at _ c.before.before.before.requires.1.1 c.before.before.before.requires.1.3 c.before.row_of.ensures in
+    (λ c κs. c.requires.1.3)
+    (λ c κs. let r = c.requires.1.0 in
+    let R = row_at _ c.requires.1.1 c.requires.1.3 c.row_of-i.ensures in
     ((ready-wf r).bounded _ R.used, r.good.sizes.room))
-    (λ c κs. let r = c.before.before.before.before.before.requires.1.0 in
-    let R = row_at _ c.before.before.before.before.before.requires.1.1 c.before.before.before.before.before.requires.1.3
-    c.before.before.before.row_of.ensures in
-    let o = opened (ready-wf r) R (plain-is _ c.before.before.before.before.before.requires.1.4 c.before.Node-at.ensures) in (
-      rw (← c.before.before.before.before.before.requires.0) (part_falls _ _ (low-falls o)),
-      (r, o.parts.low-arrow, shift-low r o c.before.before.before.before.before.requires.1.2),
+    (λ c κs. let r = c.requires.1.0 in
+    let R = row_at _ c.requires.1.1 c.requires.1.3
+    c.row_of-i.ensures in
+    let o = opened (ready-wf r) R (plain-is _ c.requires.1.4 c.before.Node-at.ensures) in (
+      rw (← c.requires.0) (part_falls _ _ (low-falls o)),
+      (r, o.parts.low-arrow, shift-low r o c.requires.1.2),
     ))
     (λ c. search rules)
-    (λ c. let r = c.before.before.before.before.before.before.before.before.before.requires.1.0 in
-    let R = row_at _ c.before.before.before.before.before.before.before.before.before.requires.1.1
-    c.before.before.before.before.before.before.before.before.before.requires.1.3
-    c.before.before.before.before.before.before.before.row_of.ensures in
+    (λ c. let r = c.requires.1.0 in
+    let R = row_at _ c.requires.1.1
+    c.requires.1.3
+    c.row_of-i.ensures in
     let o = opened (ready-wf r) R
-    (plain-is _ c.before.before.before.before.before.before.before.before.before.requires.1.4
+    (plain-is _ c.requires.1.4
     c.before.before.before.before.before.Node-at.ensures) in
-    let D = shift-calls r o c.before.before.before.before.before.before.before.before.before.requires.1.2 in
-    low_stops r D c.if1.true c.before.before.before.shift-part.ensures)
-    (λ c κs. let r = c.before.before.before.before.before.before.before.before.before.before.requires.1.0 in
-    let R = row_at _ c.before.before.before.before.before.before.before.before.before.before.requires.1.1
-    c.before.before.before.before.before.before.before.before.before.before.requires.1.3
-    c.before.before.before.before.before.before.before.before.row_of.ensures in
+    let D = shift-calls r o c.requires.1.2 in
+    low_stops r D c.if-low.true c.shift_part-low.ensures)
+    (λ c κs. let r = c.requires.1.0 in
+    let R = row_at _ c.requires.1.1
+    c.requires.1.3
+    c.row_of-i.ensures in
     let o = opened (ready-wf r) R
-    (plain-is _ c.before.before.before.before.before.before.before.before.before.before.requires.1.4
+    (plain-is _ c.requires.1.4
     c.before.before.before.before.before.before.Node-at.ensures) in
-    let w = c.before.before.before.before.shift-part.ensures in (
-      rw (← c.before.before.before.before.before.before.before.before.before.before.requires.0)
+    let w = c.shift_part-low.ensures in (
+      rw (← c.requires.0)
           (part_falls _ _ (high-falls o w.post.kept)),
       (
         ready-next r w,
         high-later o w.post.kept,
-        shift-high r o c.before.before.before.before.before.before.before.before.before.before.requires.1.2 w.post.kept,
+        shift-high r o c.requires.1.2 w.post.kept,
       ),
     ))
     (λ c. search rules)
     (λ c. let r =
-    c.before.before.before.before.before.before.before.before.before.before.before.before.before.before.requires.1.0 in
+    c.requires.1.0 in
     let R = row_at _
-    c.before.before.before.before.before.before.before.before.before.before.before.before.before.before.requires.1.1
-    c.before.before.before.before.before.before.before.before.before.before.before.before.before.before.requires.1.3
-    c.before.before.before.before.before.before.before.before.before.before.before.before.row_of.ensures in
+    c.requires.1.1
+    c.requires.1.3
+    c.row_of-i.ensures in
     let o = opened (ready-wf r) R
     (plain-is _
-    c.before.before.before.before.before.before.before.before.before.before.before.before.before.before.requires.1.4
+    c.requires.1.4
     c.before.before.before.before.before.before.before.before.before.before.Node-at.ensures) in
     let D = shift-calls r o
-    c.before.before.before.before.before.before.before.before.before.before.before.before.before.before.requires.1.2 in
-    high_stops r D c.before.before.before.before.before.if1.false
-    c.before.before.before.before.before.before.before.before.shift-part.ensures c.if2.true
-    c.before.before.before.shift-part2.ensures)
+    c.requires.1.2 in
+    high_stops r D c.if-low.false
+    c.shift_part-low.ensures c.if-high.true
+    c.shift_part-high.ensures)
     (λ c. let r =
-    c.before.before.before.before.before.before.before.before.before.before.before.before.before.before.before.before.requires.1.0 in let R =
+    c.requires.1.0 in let R =
     row_at _
-    c.before.before.before.before.before.before.before.before.before.before.before.before.before.before.before.before.requires.1.1
-    c.before.before.before.before.before.before.before.before.before.before.before.before.before.before.before.before.requires.1.3
-    c.before.before.before.before.before.before.before.before.before.before.before.before.before.before.row_of.ensures in
+    c.requires.1.1
+    c.requires.1.3
+    c.row_of-i.ensures in
     let o = opened (ready-wf r) R
     (plain-is _
-    c.before.before.before.before.before.before.before.before.before.before.before.before.before.before.before.before.requires.1.4
+    c.requires.1.4
     c.before.before.before.before.before.before.before.before.before.before.before.before.Node-at.ensures) in
     let h = o.shallow in omega arith)
     (λ c κs. let r =
-    c.before.before.before.before.before.before.before.before.before.before.before.before.before.before.before.before.requires.1.0 in let R =
+    c.requires.1.0 in let R =
     row_at _
-    c.before.before.before.before.before.before.before.before.before.before.before.before.before.before.before.before.requires.1.1
-    c.before.before.before.before.before.before.before.before.before.before.before.before.before.before.before.before.requires.1.3
-    c.before.before.before.before.before.before.before.before.before.before.before.before.before.before.row_of.ensures in
+    c.requires.1.1
+    c.requires.1.3
+    c.row_of-i.ensures in
     let o = opened (ready-wf r) R
     (plain-is _
-    c.before.before.before.before.before.before.before.before.before.before.before.before.before.before.before.before.requires.1.4
+    c.requires.1.4
     c.before.before.before.before.before.before.before.before.before.before.before.before.Node-at.ensures) in
     let D = shift-calls r o
-    c.before.before.before.before.before.before.before.before.before.before.before.before.before.before.before.before.requires.1.2 in
-    row-pre r D c.before.before.before.before.before.before.before.if1.false
-    c.before.before.before.before.before.before.before.before.before.before.shift-part.ensures
-    c.before.before.if2.false c.before.before.before.before.before.shift-part2.ensures)
+    c.requires.1.2 in
+    row-pre r D c.if-low.false
+    c.shift_part-low.ensures
+    c.if-high.false c.shift_part-high.ensures)
     (λ c κs. let r =
-    c.before.before.before.before.before.before.before.before.before.before.before.before.before.before.before.before.before.before.before.before.requires.1.0 in let R =
+    c.requires.1.0 in let R =
     row_at _
-    c.before.before.before.before.before.before.before.before.before.before.before.before.before.before.before.before.before.before.before.before.requires.1.1
-    c.before.before.before.before.before.before.before.before.before.before.before.before.before.before.before.before.before.before.before.before.requires.1.3
-    c.before.before.before.before.before.before.before.before.before.before.before.before.before.before.before.before.before.before.row_of.ensures in
-    ((ready-wf r).bounded _ R.used, c.before.before.before.make.ensures.good.sizes.room, omega arith))
+    c.requires.1.1
+    c.requires.1.3
+    c.row_of-i.ensures in
+    ((ready-wf r).bounded _ R.used, c.make-made.ensures.good.sizes.room, omega arith))
     (λ c. search rules)
     (λ c. let r =
-    c.before.before.before.before.before.before.before.before.before.before.before.before.before.before.before.before.before.before.before.before.before.before.before.requires.1.0 in let R =
+    c.requires.1.0 in let R =
     row_at _
-    c.before.before.before.before.before.before.before.before.before.before.before.before.before.before.before.before.before.before.before.before.before.before.before.requires.1.1
-    c.before.before.before.before.before.before.before.before.before.before.before.before.before.before.before.before.before.before.before.before.before.before.before.requires.1.3
-    c.before.before.before.before.before.before.before.before.before.before.before.before.before.before.before.before.before.before.before.before.before.row_of.ensures in
+    c.requires.1.1
+    c.requires.1.3
+    c.row_of-i.ensures in
     let o = opened (ready-wf r) R
     (plain-is _
-    c.before.before.before.before.before.before.before.before.before.before.before.before.before.before.before.before.before.before.before.before.before.before.before.requires.1.4
+    c.requires.1.4
     c.before.before.before.before.before.before.before.before.before.before.before.before.before.before.before.before.before.before.before.Node-at.ensures) in
     let D = shift-calls r o
-    c.before.before.before.before.before.before.before.before.before.before.before.before.before.before.before.before.before.before.before.before.before.before.before.requires.1.2 in
+    c.requires.1.2 in
     plain-kept r _
-    c.before.before.before.before.before.before.before.before.before.before.before.before.before.before.before.before.before.before.before.before.before.before.before.requires.1.4 R
+    c.requires.1.4 R
     (row_made r D
-    c.before.before.before.before.before.before.before.before.before.before.before.before.before.before.if1.false
-    c.before.before.before.before.before.before.before.before.before.before.before.before.before.before.before.before.before.shift-part.ensures c.before.before.before.before.before.before.before.before.before.if2.false
-    c.before.before.before.before.before.before.before.before.before.before.before.before.shift-part2.ensures
-    c.before.before.before.before.before.before.make.ensures) c.before.before.remember-row.ensures)
+    c.if-low.false
+    c.shift_part-low.ensures c.if-high.false
+    c.shift_part-high.ensures
+    c.make-made.ensures) c.remember_row.ensures)

@@ -11,29 +11,29 @@ and_of_spec =
     tie.close
     (tie.spec
     (λ c κs. search rules)
-    (λ c κs. let r = c.before.before.before.requires.0 in (ready-room r, r.memory.sizes))
+    (λ c κs. let r = c.requires.0 in (ready-room r, r.memory.sizes))
     (λ c. search rules)
     (λ c. search rules)
-    (λ c. let r = c.before.before.before.before.before.before.before.requires.0 in
-    let S = sorted_swap _ _ c.before.before.before.before.before.sort.ensures.0
-    c.before.before.before.before.before.sort.ensures.1 in
-    let U = swap-arrows r S c.before.before.before.before.before.before.before.requires.1
-    c.before.before.before.before.before.before.before.requires.2 in
-    let p = c.before.before.before.before.before.sort.ensures.0 in
-    let q = c.before.before.before.before.before.sort.ensures.1 in
-    swap_worked r S (known_worked r U (omega arith) c.before.found.given.1 c.before.before.before.known.ensures))
+    (λ c. let r = c.requires.0 in
+    let S = sorted_swap _ _ c.sort-p.ensures.0
+    c.sort-p.ensures.1 in
+    let U = swap-arrows r S c.requires.1
+    c.requires.2 in
+    let p = c.sort-p.ensures.0 in
+    let q = c.sort-p.ensures.1 in
+    swap_worked r S (known_worked r U (omega arith) c.in-At.is c.known-found.ensures))
     (λ c. search rules)
-    (λ c κs. let r = c.before.before.before.before.before.before.before.requires.0 in
-    let S = sorted_swap _ _ c.before.before.before.before.before.sort.ensures.0
-    c.before.before.before.before.before.sort.ensures.1 in
-    let U = swap-arrows r S c.before.before.before.before.before.before.before.requires.1
-    c.before.before.before.before.before.before.before.requires.2 in
-    let p = c.before.before.before.before.before.sort.ensures.0 in
-    let q = c.before.before.before.before.before.sort.ensures.1 in
-    let B = short_none _ _ (omega arith) (rw c.before.enum_told.given.1 at c.before.before.before.known.ensures) in
+    (λ c κs. let r = c.requires.0 in
+    let S = sorted_swap _ _ c.sort-p.ensures.0
+    c.sort-p.ensures.1 in
+    let U = swap-arrows r S c.requires.1
+    c.requires.2 in
+    let p = c.sort-p.ensures.0 in
+    let q = c.sort-p.ensures.1 in
+    let B = short_none _ _ (omega arith) (rw c.in_default.is at c.known-found.ensures) in
     (r, U.0, U.1, B))
     (λ c. search rules)
-    (λ c. let r = c.before.before.before.before.before.before.before.before.before.before.requires.0 in
-    let S = sorted_swap _ _ c.before.before.before.before.before.before.before.before.sort.ensures.0
-    c.before.before.before.before.before.before.before.before.sort.ensures.1 in
-    swap_worked r S c.before.before.and-rows.ensures))
+    (λ c. let r = c.requires.0 in
+    let S = sorted_swap _ _ c.sort-p.ensures.0
+    c.sort-p.ensures.1 in
+    swap_worked r S c.and_rows.ensures))

@@ -8,5 +8,5 @@ pub bit_spec : {M : Type 1} → statement M
 bit_spec =
     tie.close
     (tie.spec (λ c κs. search rules) (λ c. search rules)
-    (λ c. bit_worked c.before.before.before.before.before.requires.0 _ c.before.before.before.before.before.requires.1
-    c.before.before.make.ensures))
+    (λ c. bit_worked c.requires.0 _ c.requires.1
+    c.make.ensures))

@@ -9,5 +9,5 @@ pub carry_found_spec : {M : Type 1} → statement M
 carry_found_spec =
     tie.close
     (tie.spec (λ c. search rules) (λ c κs. search rules)
-    (λ c. carried-at (is_marked c.before.before.before.before.args.by) c.before.before.found.given.1 c.carry.ensures)
+    (λ c. carried-at (is_marked c.args.by) c.in-At.is c.carry.ensures)
     (λ c. search rules) (λ c. search rules))

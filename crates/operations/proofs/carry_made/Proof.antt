@@ -7,4 +7,4 @@ use Rattle.operations.proofs.carry_made.Tie as tie
 
 pub carry_made_spec : {M : Type 1} → statement M
 carry_made_spec =
-    tie.close (tie.spec (λ c. stays c.if1.true refl) (λ c κs. search rules) (λ c. turned c.before.if1.false c.carry.ensures))
+    tie.close (tie.spec (λ c. stays c.if-made-eq-FULL.true refl) (λ c κs. search rules) (λ c. turned c.if-made-eq-FULL.false c.carry.ensures))

@@ -8,17 +8,17 @@ pub exists_spec : {M : Type 1} → statement M
 exists_spec =
     tie.close
     (tie.spec
-    (λ c κs. (ready-look c.before.before.requires.0, c.before.before.requires.1, c.before.before.requires.2))
+    (λ c κs. (ready-look c.requires.0, c.requires.1, c.requires.2))
     (λ c. search rules)
     (λ c. search rules)
-    (λ c. worked_there c.before.before.before.before.before.before.requires.0
-    (c.before.before.before.exists_known_lem.ensures.at _ c.before.known.given.1))
+    (λ c. worked_there c.requires.0
+    (c.exists_known-known.ensures.at _ c.in-At.is))
     (λ c. search rules)
     (λ c κs. (
-      c.before.before.before.before.before.before.requires.0,
-      c.before.before.before.before.before.before.requires.1,
-      c.before.before.before.before.before.before.requires.2,
-      c.before.before.before.exists_known_lem.ensures.none c.before.enum_told.given.1,
+      c.requires.0,
+      c.requires.1,
+      c.requires.2,
+      c.exists_known-known.ensures.none c.in_default.is,
     ))
     (λ c. search rules)
-    (λ c. c.before.before.exists-row.ensures))
+    (λ c. c.exists_row.ensures))

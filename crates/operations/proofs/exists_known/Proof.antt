@@ -13,35 +13,35 @@ exists_known_spec =
     tie.close
     (tie.spec
     (λ c κs. search rules)
-    (λ c. exists_constant c.before.before.before.requires.0 _ _ c.before.before.before.requires.2 c.before.before.before.requires.1
-    (test_no c.before.is_row_lem.ensures c.if1.true))
-    (λ c κs. test_yes c.before.is_row_lem.ensures c.if1.false)
-    (λ c κs. let r = c.before.before.before.before.requires.0 in
-    let R = row_at _ c.before.before.before.before.requires.1 (test_yes c.before.before.is_row_lem.ensures c.before.if1.false)
-    c.row_of.ensures in ((ready-wf r).bounded _ R.used, omega arith, r.good.sizes.room))
-    (λ c. let r = c.before.before.before.before.before.before.requires.0 in
-    let R = row_at _ c.before.before.before.before.before.before.requires.1
-    (test_yes c.before.before.before.before.is_row_lem.ensures c.before.before.before.if1.false)
-    c.before.before.row_of.ensures in
-    exists-past r _ _ c.before.before.before.before.before.before.requires.1 R c.before.get.ensures
-    (let t = c.if2.true in omega arith))
-    (λ c. let r = c.before.before.before.before.before.before.requires.0 in
+    (λ c. exists_constant c.requires.0 _ _ c.requires.2 c.requires.1
+    (test_no c.is_row.ensures c.if-not-is_row.true-raw))
+    (λ c κs. test_yes c.is_row.ensures c.if-not-is_row.false-raw)
+    (λ c κs. let r = c.requires.0 in
+    let R = row_at _ c.requires.1 (test_yes c.is_row.ensures c.if-not-is_row.false-raw)
+    c.row_of-i.ensures in ((ready-wf r).bounded _ R.used, omega arith, r.good.sizes.room))
+    (λ c. let r = c.requires.0 in
+    let R = row_at _ c.requires.1
+    (test_yes c.is_row.ensures c.if-not-is_row.false-raw)
+    c.row_of-i.ensures in
+    exists-past r _ _ c.requires.1 R c.get-level.ensures
+    (let t = c.if-level-x.true in omega arith))
+    (λ c. let r = c.requires.0 in
     let e = r.levels-is in
-    let n = r.good.sizes.n_max in let h = c.before.before.before.before.before.before.requires.2 in omega arith)
-    (λ c κs. let r = c.before.before.before.before.before.before.requires.0 in
-    let R = row_at _ c.before.before.before.before.before.before.requires.1
-    (test_yes c.before.before.before.before.is_row_lem.ensures c.before.before.before.if1.false)
-    c.before.before.row_of.ensures in (
+    let n = r.good.sizes.n_max in let h = c.requires.2 in omega arith)
+    (λ c κs. let r = c.requires.0 in
+    let R = row_at _ c.requires.1
+    (test_yes c.is_row.ensures c.if-not-is_row.false-raw)
+    c.row_of-i.ensures in (
       (ready-wf r).bounded _ R.used,
       r.good.sizes.room,
       let e = r.levels-is in
-          let n = r.good.sizes.n_max in let h = c.before.before.before.before.before.before.requires.2 in omega arith,
+          let n = r.good.sizes.n_max in let h = c.requires.2 in omega arith,
     ))
-    (λ c. let r = c.before.before.before.before.before.before.before.requires.0 in
-    let R = row_at _ c.before.before.before.before.before.before.before.requires.1
-    (test_yes c.before.before.before.before.before.is_row_lem.ensures c.before.before.before.before.if1.false)
-    c.before.before.before.row_of.ensures in
+    (λ c. let r = c.requires.0 in
+    let R = row_at _ c.requires.1
+    (test_yes c.is_row.ensures c.if-not-is_row.false-raw)
+    c.row_of-i.ensures in
     exists_known_lem _ r R
-    (reaches _ (test_yes c.before.before.before.before.before.is_row_lem.ensures c.before.before.before.before.if1.false)
-    c.before.before.before.row_of.ensures c.before.before.get.ensures (let t = c.before.if2.false in omega arith))
-    c.recall-row.ensures))
+    (reaches _ (test_yes c.is_row.ensures c.if-not-is_row.false-raw)
+    c.row_of-i.ensures c.get-level.ensures (let t = c.if-level-x.false in omega arith))
+    c.recall_row.ensures))

@@ -9,16 +9,16 @@ pub exists_odd_spec : {M : Type 1} → statement M
 exists_odd_spec =
     tie.close
     (tie.spec
-    (λ c κs. (ready-look c.before.before.requires.0, c.before.before.requires.1))
+    (λ c κs. (ready-look c.requires.0, c.requires.1))
     (λ c. search rules)
     (λ c. search rules)
-    (λ c. odd-there c.before.before.before.before.before.before.requires.0 c.before.known.given.1
-    c.before.before.before.odd-known.ensures)
+    (λ c. odd-there c.requires.0 c.in-At.is
+    c.odd_known-known.ensures)
     (λ c. search rules)
     (λ c κs. (
-      c.before.before.before.before.before.before.requires.0,
-      c.before.before.before.before.before.before.requires.1,
-      c.before.before.before.odd-known.ensures.none c.before.enum_told.given.1,
+      c.requires.0,
+      c.requires.1,
+      c.odd_known-known.ensures.none c.in_default.is,
     ))
     (λ c. search rules)
-    (λ c. c.before.before.odd-row.ensures))
+    (λ c. c.odd_row.ensures))

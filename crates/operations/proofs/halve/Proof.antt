@@ -8,7 +8,7 @@ pub halve_spec : {M : Type 1} → statement M
 halve_spec =
     tie.close
     (tie.spec (λ c κs. search rules) (λ c κs. search rules)
-    (λ c. halves-past _ _ c.before.before.before.before.before.requires.0 c.before.before.before.row_of.ensures
-    c.before.before.Node-at.ensures c.if1.true)
-    (λ c. halves-here _ _ c.before.before.before.before.before.requires.0 c.before.before.before.row_of.ensures
-    c.before.before.Node-at.ensures c.if1.false))
+    (λ c. halves-past _ _ c.requires.0 c.row_of.ensures
+    c.before.before.Node-at.ensures c.if-n-level.true)
+    (λ c. halves-here _ _ c.requires.0 c.row_of.ensures
+    c.before.before.Node-at.ensures c.if-n-level.false))

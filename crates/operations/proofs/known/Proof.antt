@@ -11,9 +11,9 @@ pub known_spec : {M : Type 1} → statement M
 known_spec =
     tie.close
     (tie.spec (λ c κs. search rules) (λ c. search rules)
-    (λ c. at_once (sym c.before.before.before.short.ensures ∙ c.before.found.given.1)) (λ c. search rules)
+    (λ c. at_once (sym c.short-found.ensures ∙ c.in-At.is)) (λ c. search rules)
     (λ c κs. search rules)
     (λ c. known-recalled
-    (view c.before.before.before.before.before.args.rows c.before.before.before.before.before.args.words.now)
-    c.before.before.before.before.before.args.lo c.before.before.before.before.before.args.hi c.recall.result
-    (sym c.before.before.before.short.ensures ∙ c.before.enum_told.given.1) c.recall.ensures))
+    (view c.args.rows c.args.words.now)
+    c.args.lo c.args.hi c.recall.result
+    (sym c.short-found.ensures ∙ c.in_default.is) c.recall.ensures))

@@ -11,11 +11,11 @@ node_at_spec =
     (tie.spec (λ c κs. search rules) (λ c κs. search rules) (λ c κs. search rules) (λ c κs. search rules) (λ c κs. search rules)
     (λ c. record {
       level =
-          c.before.before.before.before.get.ensures;
+          c.get.ensures;
       low =
-          c.before.before.carry.ensures
-          ∙ ap (carry_arrow (is_marked c.before.before.before.before.before.before.args.a))
-          c.before.before.before.get2.ensures;
-      high = c.carry2.ensures
-          ∙ ap (carry_arrow (is_marked c.before.before.before.before.before.before.args.a)) c.before.get3.ensures;
+          c.carry.ensures
+          ∙ ap (carry_arrow (is_marked c.args.a))
+          c.get-2.ensures;
+      high = c.carry-2.ensures
+          ∙ ap (carry_arrow (is_marked c.args.a)) c.get-3.ensures;
     }))

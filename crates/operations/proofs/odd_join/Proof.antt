@@ -8,7 +8,7 @@ pub odd_join_spec : {M : Type 1} → statement M
 odd_join_spec =
     tie.close
     (tie.spec
-    (λ c κs. (c.before.before.before.requires.ready, c.before.before.before.requires.low, c.before.before.before.requires.high))
-    (λ c. search rules) (λ c. by-or c.before.before.before.before.if1.true c.before.before.or-of.ensures)
-    (λ c κs. c.before.before.before.requires.make c.before.if1.false) (λ c. search rules)
-    (λ c. by_row c.before.before.before.before.if1.false c.before.before.make.ensures))
+    (λ c κs. (c.requires.ready, c.requires.low, c.requires.high))
+    (λ c. search rules) (λ c. by-or c.if-level-eq1.true c.or_of.ensures)
+    (λ c κs. c.requires.make c.if-level-eq1.false) (λ c. search rules)
+    (λ c. by_row c.if-level-eq1.false c.make.ensures))

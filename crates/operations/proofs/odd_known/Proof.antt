@@ -11,12 +11,12 @@ use Rattle.operations.proofs.odd_known.Tie as tie
 pub odd_known_spec : {M : Type 1} → statement M
 odd_known_spec =
     tie.close
-    (tie.spec (λ c κs. search rules) (λ c. odd_constant _ (test_no c.before.is_row_lem.ensures c.if1.true))
-    (λ c κs. test_yes c.before.is_row_lem.ensures c.if1.false)
-    (λ c κs. let r = c.before.before.before.before.requires.0 in
-    let R = row_at _ c.before.before.before.before.requires.1 (test_yes c.before.before.is_row_lem.ensures c.before.if1.false)
+    (tie.spec (λ c κs. search rules) (λ c. odd_constant _ (test_no c.is_row.ensures c.if-not-is_row.true-raw))
+    (λ c κs. test_yes c.is_row.ensures c.if-not-is_row.false-raw)
+    (λ c κs. let r = c.requires.0 in
+    let R = row_at _ c.requires.1 (test_yes c.is_row.ensures c.if-not-is_row.false-raw)
     c.row_of.ensures in ((ready-wf r).bounded _ R.used, r.good.sizes.room, omega arith))
-    (λ c. let r = c.before.before.before.before.before.requires.0 in
-    let R = row_at _ c.before.before.before.before.before.requires.1
-    (test_yes c.before.before.before.is_row_lem.ensures c.before.before.if1.false) c.before.row_of.ensures in
-    odd_remembered r R (test_yes c.before.before.before.is_row_lem.ensures c.before.before.if1.false) c.recall-row.ensures))
+    (λ c. let r = c.requires.0 in
+    let R = row_at _ c.requires.1
+    (test_yes c.is_row.ensures c.if-not-is_row.false-raw) c.row_of.ensures in
+    odd_remembered r R (test_yes c.is_row.ensures c.if-not-is_row.false-raw) c.recall_row.ensures))

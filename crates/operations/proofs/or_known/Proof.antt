@@ -9,7 +9,7 @@ pub or_known_spec : {M : Type 1} → statement M
 or_known_spec =
     tie.close
     (tie.spec (λ c κs. search rules) (λ c κs. search rules) (λ c κs. search rules) (λ c κs. search rules)
-    (λ c. or-by c.before.before.before.before.before.args.lo c.before.before.before.before.before.args.hi
-    c.before.before.before.flip.ensures c.before.before.flip2.ensures
-    (view c.before.before.before.before.before.args.rows c.before.before.before.before.before.args.words.now)
-    c.before.known.result c.before.known.ensures c.carry-found.ensures))
+    (λ c. or-by c.args.lo c.args.hi
+    c.flip.ensures c.flip-2.ensures
+    (view c.args.rows c.args.words.now)
+    c.known-found.result c.known-found.ensures c.carry_found.ensures))

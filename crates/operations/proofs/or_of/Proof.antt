@@ -11,27 +11,27 @@ or_of_spec =
     tie.close
     (tie.spec
     (λ c κs. search rules)
-    (λ c κs. let r = c.before.before.before.requires.0 in (ready-room r, r.memory.sizes))
+    (λ c κs. let r = c.requires.0 in (ready-room r, r.memory.sizes))
     (λ c. search rules)
     (λ c. search rules)
-    (λ c. let r = c.before.before.before.before.before.before.before.requires.0 in
-    let S = sorted_swap _ _ c.before.before.before.before.before.sort.ensures.0
-    c.before.before.before.before.before.sort.ensures.1 in
-    let U = swap-arrows r S c.before.before.before.before.before.before.before.requires.1
-    c.before.before.before.before.before.before.before.requires.2 in
-    or-swapped r S (or_known_lem r U c.before.found.given.1 c.before.before.before.or_known_lem.ensures))
+    (λ c. let r = c.requires.0 in
+    let S = sorted_swap _ _ c.sort-p.ensures.0
+    c.sort-p.ensures.1 in
+    let U = swap-arrows r S c.requires.1
+    c.requires.2 in
+    or-swapped r S (or_known_lem r U c.in-At.is c.or_known-found.ensures))
     (λ c. search rules)
-    (λ c κs. let r = c.before.before.before.before.before.before.before.requires.0 in
-    let S = sorted_swap _ _ c.before.before.before.before.before.sort.ensures.0
-    c.before.before.before.before.before.sort.ensures.1 in
-    let U = swap-arrows r S c.before.before.before.before.before.before.before.requires.1
-    c.before.before.before.before.before.before.before.requires.2 in
-    let p = c.before.before.before.before.before.sort.ensures.0 in
-    let q = c.before.before.before.before.before.sort.ensures.1 in
-    let B = or-none _ _ (omega arith) c.before.enum_told.given.1 c.before.before.before.or_known_lem.ensures in
+    (λ c κs. let r = c.requires.0 in
+    let S = sorted_swap _ _ c.sort-p.ensures.0
+    c.sort-p.ensures.1 in
+    let U = swap-arrows r S c.requires.1
+    c.requires.2 in
+    let p = c.sort-p.ensures.0 in
+    let q = c.sort-p.ensures.1 in
+    let B = or-none _ _ (omega arith) c.in_default.is c.or_known-found.ensures in
     (r, U.0, U.1, B))
     (λ c. search rules)
-    (λ c. let r = c.before.before.before.before.before.before.before.before.before.before.requires.0 in
-    let S = sorted_swap _ _ c.before.before.before.before.before.before.before.before.sort.ensures.0
-    c.before.before.before.before.before.before.before.before.sort.ensures.1 in
-    or-swapped r S c.before.before.or-rows.ensures))
+    (λ c. let r = c.requires.0 in
+    let S = sorted_swap _ _ c.sort-p.ensures.0
+    c.sort-p.ensures.1 in
+    or-swapped r S c.or_rows.ensures))

@@ -8,7 +8,7 @@ pub remember_or_spec : {M : Type 1} → statement M
 remember_or_spec =
     tie.close
     (tie.spec (λ c κs. search rules) (λ c κs. search rules) (λ c κs. search rules) (λ c κs. search rules) (λ c. search rules)
-    (λ c. or-stored c.before.before.before.before.before.before.before.before.args.lo
-    c.before.before.before.before.before.before.before.before.args.hi
-    c.before.before.before.before.flip.ensures c.before.before.before.flip2.ensures
-    c.before.before.before.before.before.before.carry-made.ensures c.before.before.remember.ensures))
+    (λ c. or-stored c.args.lo
+    c.args.hi
+    c.flip.ensures c.flip-2.ensures
+    c.carry_made-turned.ensures c.remember.ensures))

@@ -9,24 +9,24 @@ pub shift_spec : {M : Type 1} → statement M
 shift_spec =
     tie.close
     (tie.spec
-    (λ c κs. (ready-look c.before.before.requires.0, c.before.before.requires.1))
+    (λ c κs. (ready-look c.requires.0, c.requires.1))
     (λ c. search rules)
     (λ c. search rules)
-    (λ c. worked_there c.before.before.before.before.before.before.requires.0
-    (c.before.before.before.shift-known.ensures.at _ c.before.known.given.1))
+    (λ c. worked_there c.requires.0
+    (c.shift_known-known.ensures.at _ c.in-At.is))
     (λ c. search rules)
     (λ c κs. search rules)
-    (λ c κs. let a = c.before.before.before.before.before.before.before.args.a in
+    (λ c κs. let a = c.args.a in
     let e = c.carry.ensures in (
-      c.before.before.before.before.before.before.before.requires.0,
-      plain-arrow a e c.before.before.before.before.before.before.before.requires.0
-          c.before.before.before.before.before.before.before.requires.1,
-      plain_reads a e c.before.before.before.before.before.before.before.requires.0
-          c.before.before.before.before.before.before.before.requires.2,
-      plain_row a e (c.before.before.before.before.shift-known.ensures.none c.before.before.enum_told.given.1),
+      c.requires.0,
+      plain-arrow a e c.requires.0
+          c.requires.1,
+      plain_reads a e c.requires.0
+          c.requires.2,
+      plain_row a e (c.shift_known-known.ensures.none c.in_default.is),
       plain-mark a e,
     ))
     (λ c κs. search rules)
     (λ c. search rules)
-    (λ c. shift-carried c.before.before.before.before.before.before.before.before.before.before.before.args.a
-    c.before.before.before.before.carry.ensures c.before.before.before.shift-row.ensures c.carry-made.ensures))
+    (λ c. shift-carried c.args.a
+    c.carry.ensures c.shift_row-made.ensures c.carry_made.ensures))

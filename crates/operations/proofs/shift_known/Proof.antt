@@ -13,12 +13,12 @@ pub shift_known_spec : {M : Type 1} → statement M
 shift_known_spec =
     tie.close
     (tie.spec (λ c κs. search rules)
-    (λ c. shift_constant c.before.before.before.requires.0 _ (test_no c.before.is_row_lem.ensures c.if1.true))
-    (λ c κs. test_yes c.before.is_row_lem.ensures c.if1.false)
-    (λ c κs. let r = c.before.before.before.before.requires.0 in
-    let R = row_at _ c.before.before.before.before.requires.1 (test_yes c.before.before.is_row_lem.ensures c.before.if1.false)
+    (λ c. shift_constant c.requires.0 _ (test_no c.is_row.ensures c.if-not-is_row.true-raw))
+    (λ c κs. test_yes c.is_row.ensures c.if-not-is_row.false-raw)
+    (λ c κs. let r = c.requires.0 in
+    let R = row_at _ c.requires.1 (test_yes c.is_row.ensures c.if-not-is_row.false-raw)
     c.row_of.ensures in ((ready-wf r).bounded _ R.used, r.good.sizes.room, omega arith)) (λ c κs. search rules)
-    (λ c. let r = c.before.before.before.before.before.before.requires.0 in
-    let t = test_yes c.before.before.before.before.is_row_lem.ensures c.before.before.before.if1.false in
-    let R = row_at _ c.before.before.before.before.before.before.requires.1 t c.before.before.row_of.ensures in
-    shift_remembered _ c.before.recall-row.result r R t c.before.recall-row.ensures c.carry-found.ensures))
+    (λ c. let r = c.requires.0 in
+    let t = test_yes c.is_row.ensures c.if-not-is_row.false-raw in
+    let R = row_at _ c.requires.1 t c.row_of.ensures in
+    shift_remembered _ c.recall_row-found.result r R t c.recall_row-found.ensures c.carry_found.ensures))

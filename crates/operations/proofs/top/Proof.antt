@@ -8,7 +8,7 @@ pub top_spec : {M : Type 1} → statement M
 top_spec =
     tie.close
     (tie.spec (λ c κs. search rules) (λ c κs. search rules) (λ c κs. search rules) (λ c κs. search rules)
-    (λ c. let e = rw c.before.before.before.before.row_of.ensures at c.before.before.before.get.ensures in
-    let f = rw c.before.before.row-of2.ensures at c.before.get2.ensures in let t = c.if1.true in omega arith)
-    (λ c. let e = rw c.before.before.before.before.row_of.ensures at c.before.before.before.get.ensures in
-    let f = rw c.before.before.row-of2.ensures at c.before.get2.ensures in let t = c.if1.false in omega arith))
+    (λ c. let e = rw c.row_of.ensures at c.get-k.ensures in
+    let f = rw c.row_of-2.ensures at c.get-l.ensures in let t = c.if-k-l.true in omega arith)
+    (λ c. let e = rw c.row_of.ensures at c.get-k.ensures in
+    let f = rw c.row_of-2.ensures at c.get-l.ensures in let t = c.if-k-l.false in omega arith))

@@ -20,25 +20,25 @@ search_spec =
     (λ c κs. search rules)
     (λ c. search rules)
     (λ c κs. (
-      (start-base c.before.before.before.before.before.before.before.before.requires.opens
-          c.before.before.before.before.forget.ensures).sound,
+      (start-base c.requires.opens
+          c.forget.ensures).sound,
       refl,
     ))
     (λ c. search rules)
     (λ c κs. (
-      search-asks c.before.before.before.before.before.before.before.before.before.before.before.before.before.requires
-          c.before.before.before.before.before.before.before.before.before.forget.ensures,
-      c.before.before.before.before.begin.ensures,
+      search-asks c.requires
+          c.forget.ensures,
+      c.begin.ensures,
     ))
     (λ c κs. search_frees
-    c.before.before.before.before.before.before.before.before.before.before.before.before.before.before.before.before.before.before.before.before.requires
-    c.before.before.before.before.before.before.before.before.before.before.before.before.before.before.before.before.forget.ensures
-    c.before.before.before.before.before.before.before.before.before.before.before.before.before.before.before.before.before.before.before.before.args.list.now c.before.before.before.before.before.before.find_run_lem.ensures)
+    c.requires
+    c.forget.ensures
+    c.args.list.now c.find_run-found.ensures)
     (λ c. search rules)
     (λ c. search rules)
     (λ c. search-done
-    c.before.before.before.before.before.before.before.before.before.before.before.before.before.before.before.before.before.before.before.before.before.before.before.requires
-    c.before.before.before.before.before.before.before.before.before.before.before.before.before.before.before.before.before.before.before.forget.ensures
-    c.before.before.before.before.before.before.before.before.before.before.before.before.before.before.before.before.before.before.before.before.before.before.before.args.list.now
-    c.before.before.before.before.before.before.before.before.before.find_run_lem.ensures
-    c.before.before.free-many.ensures))
+    c.requires
+    c.forget.ensures
+    c.args.list.now
+    c.find_run-found.ensures
+    c.free_many.ensures))

@@ -17,129 +17,129 @@ shortest_spec =
     (tie.spec
     (λ c κs. search rules)
     (λ c. search rules)
-    (λ c. path_unsound c.before.before.before.before.before.args.a c.before.before.before.before.before.args.b
-    c.before.before.before.before.before.args.t c.before.before.before.before.before.args.words.now
-    c.before.before.before.before.before.args.list.now (says_fail c.if1.true c.before.sound.ensures))
+    (λ c. path_unsound c.args.a c.args.b
+    c.args.t c.args.words.now
+    c.args.list.now (says_fail c.if-not-sound.true-raw c.sound.ensures))
     (λ c. search rules)
-    (λ c. path_range c.before.before.before.before.before.before.args.a
-    c.before.before.before.before.before.before.args.b c.before.before.before.before.before.before.args.t
-    c.before.before.before.before.before.before.args.words.now
-    c.before.before.before.before.before.before.args.list.now
-    (says_pass c.before.if1.false c.before.before.sound.ensures) (λ r. omega (arith, r.0, c.if2.true)))
+    (λ c. path_range c.args.a
+    c.args.b c.args.t
+    c.args.words.now
+    c.args.list.now
+    (says_pass c.if-not-sound.false-raw c.sound.ensures) (λ r. omega (arith, r.0, c.if-a-ge-REGISTERS.true)))
     (λ c. search rules)
-    (λ c. path_range c.before.before.before.before.before.before.before.args.a
-    c.before.before.before.before.before.before.before.args.b
-    c.before.before.before.before.before.before.before.args.t
-    c.before.before.before.before.before.before.before.args.words.now
-    c.before.before.before.before.before.before.before.args.list.now
-    (says_pass c.before.before.if1.false c.before.before.before.sound.ensures) (λ r. omega (arith, r.1, c.if3.true)))
+    (λ c. path_range c.args.a
+    c.args.b
+    c.args.t
+    c.args.words.now
+    c.args.list.now
+    (says_pass c.if-not-sound.false-raw c.sound.ensures) (λ r. omega (arith, r.1, c.if-b-ge-REGISTERS.true)))
     (λ c. search rules)
-    (λ c. path_range c.before.before.before.before.before.before.before.before.args.a
-    c.before.before.before.before.before.before.before.before.args.b
-    c.before.before.before.before.before.before.before.before.args.t
-    c.before.before.before.before.before.before.before.before.args.words.now
-    c.before.before.before.before.before.before.before.before.args.list.now
-    (says_pass c.before.before.before.if1.false c.before.before.before.before.sound.ensures)
-    (λ r. omega (arith, r.2, c.if4.true)))
+    (λ c. path_range c.args.a
+    c.args.b
+    c.args.t
+    c.args.words.now
+    c.args.list.now
+    (says_pass c.if-not-sound.false-raw c.sound.ensures)
+    (λ r. omega (arith, r.2, c.if-t-ge-RELATIONS.true)))
     (λ c κs. let q =
-    (says_pass c.before.before.before.before.if1.false
-    c.before.before.before.before.before.sound.ensures).good.sizes in omega arith)
+    (says_pass c.if-not-sound.false-raw
+    c.sound.ensures).good.sizes in omega arith)
     (λ c κs. let q =
-    (says_pass c.before.before.before.before.before.before.if1.false
-    c.before.before.before.before.before.before.before.sound.ensures).good.sizes in omega arith)
+    (says_pass c.if-not-sound.false-raw
+    c.sound.ensures).good.sizes in omega arith)
     (λ c. search rules)
-    (λ c κs. let g = c.before.before.before.before.before.before.before.if2.false in
+    (λ c κs. let g = c.if-a-ge-REGISTERS.false in
     let q =
-    (says_pass c.before.before.before.before.before.before.before.before.if1.false
-    c.before.before.before.before.before.before.before.before.before.sound.ensures).good.sizes in omega arith)
+    (says_pass c.if-not-sound.false-raw
+    c.sound.ensures).good.sizes in omega arith)
     (λ c. search rules)
-    (λ c κs. let g = c.before.before.before.before.before.before.before.before.if3.false in
+    (λ c κs. let g = c.if-b-ge-REGISTERS.false in
     let q =
-    (says_pass c.before.before.before.before.before.before.before.before.before.before.if1.false
-    c.before.before.before.before.before.before.before.before.before.before.before.sound.ensures).good.sizes in
+    (says_pass c.if-not-sound.false-raw
+    c.sound.ensures).good.sizes in
     omega arith)
     (λ c. search rules)
-    (λ c κs. let g = c.before.before.before.before.before.before.before.before.before.if4.false in
+    (λ c κs. let g = c.if-t-ge-RELATIONS.false in
     let q =
-    (says_pass c.before.before.before.before.before.before.before.before.before.before.before.before.if1.false
-    c.before.before.before.before.before.before.before.before.before.before.before.before.before.sound.ensures).good.sizes in omega arith)
+    (says_pass c.if-not-sound.false-raw
+    c.sound.ensures).good.sizes in omega arith)
     (λ c. search rules)
     (λ c. path_first
-    c.before.before.before.before.before.before.before.before.before.before.before.before.before.before.before.before.before.before.before.args.a
-    c.before.before.before.before.before.before.before.before.before.before.before.before.before.before.before.before.before.before.before.args.b
-    c.before.before.before.before.before.before.before.before.before.before.before.before.before.before.before.before.before.before.before.args.t
-    c.before.before.before.before.before.before.before.before.before.before.before.before.before.before.before.before.before.before.before.args.words.now
-    c.before.before.before.before.before.before.before.before.before.before.before.before.before.before.before.before.before.before.before.args.list.now
+    c.args.a
+    c.args.b
+    c.args.t
+    c.args.words.now
+    c.args.list.now
     (says_pass
-    c.before.before.before.before.before.before.before.before.before.before.before.before.before.before.if1.false
-    c.before.before.before.before.before.before.before.before.before.before.before.before.before.before.before.sound.ensures) (
-      c.before.before.before.before.before.before.before.before.before.before.before.before.before.if2.false,
-      c.before.before.before.before.before.before.before.before.before.before.before.before.if3.false,
-      c.before.before.before.before.before.before.before.before.before.before.before.if4.false,
+    c.if-not-sound.false-raw
+    c.sound.ensures) (
+      c.if-a-ge-REGISTERS.false,
+      c.if-b-ge-REGISTERS.false,
+      c.if-t-ge-RELATIONS.false,
     )
-    c.before.before.before.before.before.header-word3.ensures c.if5.true)
+    c.header_word-x.ensures c.if-x-eq0.true)
     (λ c. search rules)
     (λ c. path_second
-    c.before.before.before.before.before.before.before.before.before.before.before.before.before.before.before.before.before.before.before.before.args.a
-    c.before.before.before.before.before.before.before.before.before.before.before.before.before.before.before.before.before.before.before.before.args.b
-    c.before.before.before.before.before.before.before.before.before.before.before.before.before.before.before.before.before.before.before.before.args.t
-    c.before.before.before.before.before.before.before.before.before.before.before.before.before.before.before.before.before.before.before.before.args.words.now
-    c.before.before.before.before.before.before.before.before.before.before.before.before.before.before.before.before.before.before.before.before.args.list.now
+    c.args.a
+    c.args.b
+    c.args.t
+    c.args.words.now
+    c.args.list.now
     (says_pass
-    c.before.before.before.before.before.before.before.before.before.before.before.before.before.before.before.if1.false c.before.before.before.before.before.before.before.before.before.before.before.before.before.before.before.before.sound.ensures) (
-      c.before.before.before.before.before.before.before.before.before.before.before.before.before.before.if2.false,
-      c.before.before.before.before.before.before.before.before.before.before.before.before.before.if3.false,
-      c.before.before.before.before.before.before.before.before.before.before.before.before.if4.false,
+    c.if-not-sound.false-raw c.sound.ensures) (
+      c.if-a-ge-REGISTERS.false,
+      c.if-b-ge-REGISTERS.false,
+      c.if-t-ge-RELATIONS.false,
     )
-    c.before.before.before.before.header-word4.ensures c.if6.true)
+    c.header_word-y.ensures c.if-y-eq0.true)
     (λ c. search rules)
     (λ c. path_third
-    c.before.before.before.before.before.before.before.before.before.before.before.before.before.before.before.before.before.before.before.before.before.args.a
-    c.before.before.before.before.before.before.before.before.before.before.before.before.before.before.before.before.before.before.before.before.before.args.b
-    c.before.before.before.before.before.before.before.before.before.before.before.before.before.before.before.before.before.before.before.before.before.args.t
-    c.before.before.before.before.before.before.before.before.before.before.before.before.before.before.before.before.before.before.before.before.before.args.words.now
-    c.before.before.before.before.before.before.before.before.before.before.before.before.before.before.before.before.before.before.before.before.before.args.list.now
+    c.args.a
+    c.args.b
+    c.args.t
+    c.args.words.now
+    c.args.list.now
     (says_pass
-    c.before.before.before.before.before.before.before.before.before.before.before.before.before.before.before.before.if1.false
-    c.before.before.before.before.before.before.before.before.before.before.before.before.before.before.before.before.before.sound.ensures) (
-      c.before.before.before.before.before.before.before.before.before.before.before.before.before.before.before.if2.false,
-      c.before.before.before.before.before.before.before.before.before.before.before.before.before.before.if3.false,
-      c.before.before.before.before.before.before.before.before.before.before.before.before.before.if4.false,
+    c.if-not-sound.false-raw
+    c.sound.ensures) (
+      c.if-a-ge-REGISTERS.false,
+      c.if-b-ge-REGISTERS.false,
+      c.if-t-ge-RELATIONS.false,
     )
-    c.before.before.before.header-word5.ensures c.if7.true)
-    (λ c. omega (arith, c.before.before.if7.false))
-    (λ c. omega (arith, c.before.before.before.before.if5.false))
-    (λ c. omega (arith, c.before.before.before.if6.false))
+    c.header_word-z.ensures c.if-z-eq0.true)
+    (λ c. omega (arith, c.if-z-eq0.false))
+    (λ c. omega (arith, c.if-x-eq0.false))
+    (λ c. omega (arith, c.if-y-eq0.false))
     (λ c κs. call_asks
-    c.before.before.before.before.before.before.before.before.before.before.before.before.before.before.before.before.before.before.before.before.before.before.before.args.words.now
+    c.args.words.now
     (says_pass
-    c.before.before.before.before.before.before.before.before.before.before.before.before.before.before.before.before.before.before.if1.false
-    c.before.before.before.before.before.before.before.before.before.before.before.before.before.before.before.before.before.before.before.sound.ensures) (
-      c.before.before.before.before.before.before.before.before.before.before.before.before.before.before.before.before.before.if2.false,
-      c.before.before.before.before.before.before.before.before.before.before.before.before.before.before.before.before.if3.false,
-      c.before.before.before.before.before.before.before.before.before.before.before.before.before.before.before.if4.false,
-    ) c.before.before.before.before.before.before.before.before.before.before.before.before.before.header-word.ensures c.before.before.before.before.before.before.before.before.before.before.before.header-word2.ensures
-    c.before.before.before.before.before.before.before.before.before.header-word3.ensures
-    c.before.before.before.before.before.before.before.header-word4.ensures
-    c.before.before.before.before.before.header-word5.ensures c.before.before.before.before.if5.false
-    c.before.before.before.if6.false c.before.before.if7.false)
+    c.if-not-sound.false-raw
+    c.sound.ensures) (
+      c.if-a-ge-REGISTERS.false,
+      c.if-b-ge-REGISTERS.false,
+      c.if-t-ge-RELATIONS.false,
+    ) c.header_word-rows.ensures c.header_word-bits.ensures
+    c.header_word-x.ensures
+    c.header_word-y.ensures
+    c.header_word-z.ensures c.if-x-eq0.false
+    c.if-y-eq0.false c.if-z-eq0.false)
     (λ c. search rules)
     (λ c. search rules)
     (λ c. call_ends
-    c.before.before.before.before.before.before.before.before.before.before.before.before.before.before.before.before.before.before.before.before.before.before.before.before.before.before.before.before.args.words.now
+    c.args.words.now
     (says_pass
-    c.before.before.before.before.before.before.before.before.before.before.before.before.before.before.before.before.before.before.before.before.before.before.before.if1.false
-    c.before.before.before.before.before.before.before.before.before.before.before.before.before.before.before.before.before.before.before.before.before.before.before.before.sound.ensures) (
-      c.before.before.before.before.before.before.before.before.before.before.before.before.before.before.before.before.before.before.before.before.before.before.if2.false,
-      c.before.before.before.before.before.before.before.before.before.before.before.before.before.before.before.before.before.before.before.before.before.if3.false,
-      c.before.before.before.before.before.before.before.before.before.before.before.before.before.before.before.before.before.before.before.before.if4.false,
+    c.if-not-sound.false-raw
+    c.sound.ensures) (
+      c.if-a-ge-REGISTERS.false,
+      c.if-b-ge-REGISTERS.false,
+      c.if-t-ge-RELATIONS.false,
     )
-    c.before.before.before.before.before.before.before.before.before.before.before.before.before.before.before.before.before.before.header-word.ensures
-    c.before.before.before.before.before.before.before.before.before.before.before.before.before.before.before.before.header-word2.ensures
-    c.before.before.before.before.before.before.before.before.before.before.before.before.before.before.header-word3.ensures c.before.before.before.before.before.before.before.before.before.before.before.before.header-word4.ensures
-    c.before.before.before.before.before.before.before.before.before.before.header-word5.ensures
-    c.before.before.before.before.before.before.before.before.before.if5.false
-    c.before.before.before.before.before.before.before.before.if6.false
-    c.before.before.before.before.before.before.before.if7.false _
-    c.before.before.before.before.before.before.before.before.before.before.before.before.before.before.before.before.before.before.before.before.before.before.before.before.before.before.before.before.args.list.now _
-    c.before.before.before.before.search.ensures))
+    c.header_word-rows.ensures
+    c.header_word-bits.ensures
+    c.header_word-x.ensures c.header_word-y.ensures
+    c.header_word-z.ensures
+    c.if-x-eq0.false
+    c.if-y-eq0.false
+    c.if-z-eq0.false _
+    c.args.list.now _
+    c.search.ensures))

@@ -11,12 +11,12 @@ use borrow.Author.Rules.{rules}
 use Rattle.player.proofs.obey_all.Statement.{statement}
 use Rattle.player.proofs.obey_all.Tie as tie
 
-abbrev invariant_loop : tie.invariant_loop
+abbrev invariant_loop : tie.invariant-loop-at
 invariant_loop words₀ bytes list₀ sound₀ at₀ next₀ words list sound at next =
     Progress bytes words₀ list₀ at next words list × (length words ≡ length words₀) × (length list ≡ length list₀)
     × Says (SoundWords words) sound
 
-abbrev decreases_loop : tie.decreases_loop
+abbrev decreases_loop : tie.decreases-loop-at
 decreases_loop words₀ bytes list₀ sound₀ at₀ next₀ words list sound at next = length bytes - at
 
 pub obey_all_spec : {M : Type 1} → statement M
@@ -26,48 +26,48 @@ obey_all_spec =
     invariant_loop
     decreases_loop
     (λ c κs. search rules)
-    (λ c. (progress-none _ _ _, refl, refl, c.sound.ensures))
+    (λ c. (progress-none _ _ _, refl, refl, c.sound-is_sound.ensures))
     (λ c. search rules)
     (λ c. search rules)
     (λ c. search rules)
-    (λ c κs. let p = c.before.before.before.before.loop.invariant in
-    let (cs, e, room) = c.before.before.before.before.before.before.before.before.before.before.requires in
-    let r = readable_at p.0.passed (cs, e) c.before.before.before.loop-test.true in
-    (r.0, r.1, omega (arith, room_at p.0 e room c.before.before.before.loop-test.true, p.2), p.3))
+    (λ c κs. let p = c.loop-at.invariant in
+    let (cs, e, room) = c.requires in
+    let r = readable_at p.0.passed (cs, e) c.loop-at-test.true in
+    (r.0, r.1, omega (arith, room_at p.0 e room c.loop-at-test.true, p.2), p.3))
     (λ c. let n =
     next-at
-    c.before.before.before.before.before.before.before.before.before.before.before.before.before.before.before.before.args.bytes.now _ c.before.before.before.before.before.obey-next.ensures.0 in
+    c.args.bytes.now _ c.obey_next-step.ensures.0 in
     omega (
       arith,
       n.within,
-      length-drop c.before.before.before.before.before.before.before.before.before.before.loop.at
-          c.before.before.before.before.before.before.before.before.before.before.before.before.before.before.before.before.args.bytes.now,
-      c.before.before.before.before.before.before.before.before.before.before.loop.invariant.0.passed.within,
+      length-drop c.loop-at.at
+          c.args.bytes.now,
+      c.loop-at.invariant.0.passed.within,
     ))
     (λ c. let (cs, e, room) =
-    c.before.before.before.before.before.before.before.before.before.before.before.before.before.before.before.before.requires in
+    c.requires in
     omega (
       arith,
-      room_at c.before.before.before.before.before.before.before.before.before.before.loop.invariant.0 e room
-          c.before.before.before.before.before.before.before.before.before.loop-test.true,
+      room_at c.loop-at.invariant.0 e room
+          c.loop-at-test.true,
       c.before.before.before.before.before.before.before.before.before.before.before.before.before.before.before.before.well-formed,
     ))
     (λ c. let n =
     next-at
-    c.before.before.before.before.before.before.before.before.before.before.before.before.before.before.before.before.args.bytes.now _ c.before.before.before.before.before.obey-next.ensures.0 in
-    omega (arith, n.size, c.before.before.before.before.before.before.before.before.before.loop-test.true))
+    c.args.bytes.now _ c.obey_next-step.ensures.0 in
+    omega (arith, n.size, c.loop-at-test.true))
     (λ c. let n =
     next-at
-    c.before.before.before.before.before.before.before.before.before.before.before.before.before.before.before.before.args.bytes.now _ c.before.before.before.before.before.obey-next.ensures.0 in (
-      progress-next _ n.entry c.before.before.before.before.before.before.before.before.before.before.loop.invariant.0
-          c.before.before.before.before.before.before.before.before.before.loop-test.true n.read n.size n.within
+    c.args.bytes.now _ c.obey_next-step.ensures.0 in (
+      progress-next _ n.entry c.loop-at.invariant.0
+          c.loop-at-test.true n.read n.size n.within
           n.obeyed n.listed,
-      c.before.before.before.before.before.obey-next.auto.0
-          ∙ c.before.before.before.before.before.before.before.before.before.before.loop.invariant.1,
-      c.before.before.before.before.before.obey-next.auto.1.1.1.0
-          ∙ c.before.before.before.before.before.before.before.before.before.before.loop.invariant.2,
-      c.before.before.before.before.before.obey-next.ensures.1,
+      c.obey_next-step.auto.words
+          ∙ c.loop-at.invariant.1,
+      c.obey_next-step.auto.list
+          ∙ c.loop-at.invariant.2,
+      c.obey_next-step.ensures.1,
     ))
-    (λ c. c.before.loop.invariant.1)
-    (λ c. c.before.loop.invariant.2)
-    (λ c. progress-all c.before.loop.invariant.0 c.loop-test.false))
+    (λ c. c.loop-at.invariant.1)
+    (λ c. c.loop-at.invariant.2)
+    (λ c. progress-all c.loop-at.invariant.0 c.loop-at-test.false))

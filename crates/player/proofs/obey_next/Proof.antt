@@ -11,9 +11,9 @@ pub obey_next_spec : {M : Type 1} → statement M
 obey_next_spec =
     tie.close
     (tie.spec
-    (λ c κs. c.before.before.before.before.requires.3)
+    (λ c κs. c.requires.3)
     (λ c. search rules)
-    (λ c κs. c.before.before.before.before.before.before.before.before.before.before.before.requires.2)
+    (λ c κs. c.requires.2)
     (λ c κs. search rules)
     (λ c. search rules)
     (λ c. search rules)
@@ -22,32 +22,32 @@ obey_next_spec =
     (λ c. search rules)
     (λ c. (
       next-done
-          c.before.before.before.before.before.before.before.before.before.before.before.before.before.before.before.args.bytes.now _ _
-          c.before.before.before.before.before.before.before.before.before.before.before.before.before.before.before.requires.0
-          c.before.before.before.before.before.before.before.before.before.before.before.before.before.before.before.requires.1
-          c.before.before.before.before.before.before.before.before.before.before.take-record.ensures
-          c.before.before.before.before.before.before.outcome.given.1 c.before.before.before.put-outcome.ensures,
+          c.args.bytes.now _ _
+          c.requires.0
+          c.requires.1
+          c.take_record.ensures
+          c.in-Done.is c.put_outcome.ensures,
       obeyed-sound
-          c.before.before.before.before.before.before.before.before.before.before.before.before.before.before.before.args.bytes.now true _ _ _ c.before.before.before.before.before.before.before.before.before.before.take-record.ensures
-          c.before.before.before.before.before.before.outcome.given.1
-          c.before.before.before.before.before.before.before.before.before.before.before.before.before.before.before.requires.3
-          c.sound-after.ensures,
+          c.args.bytes.now true _ _ _ c.take_record.ensures
+          c.in-Done.is
+          c.requires.3
+          c.sound_after.ensures,
     ))
     (λ c. search rules)
     (λ c. absurd
-    (next-other c.before.before.before.before.before.before.before.before.before.args.bytes.now _ _ End
-    c.before.before.before.before.before.before.before.before.before.requires.0
-    c.before.before.before.before.before.before.before.before.before.requires.1
-    c.before.before.before.before.take-record.ensures c.enum_told.given.1 tt))
+    (next-other c.args.bytes.now _ _ End
+    c.requires.0
+    c.requires.1
+    c.take_record.ensures c.in-End.is tt))
     (λ c. search rules)
     (λ c. absurd
-    (next-other c.before.before.before.before.before.before.before.before.before.args.bytes.now _ _ More
-    c.before.before.before.before.before.before.before.before.before.requires.0
-    c.before.before.before.before.before.before.before.before.before.requires.1
-    c.before.before.before.before.take-record.ensures c.enum-told2.given.1 tt))
+    (next-other c.args.bytes.now _ _ More
+    c.requires.0
+    c.requires.1
+    c.take_record.ensures c.in-More.is tt))
     (λ c. search rules)
     (λ c. absurd
-    (next-other c.before.before.before.before.before.before.before.before.before.args.bytes.now _ _ Bad
-    c.before.before.before.before.before.before.before.before.before.requires.0
-    c.before.before.before.before.before.before.before.before.before.requires.1
-    c.before.before.before.before.take-record.ensures c.enum-told3.given.1 tt)))
+    (next-other c.args.bytes.now _ _ Bad
+    c.requires.0
+    c.requires.1
+    c.take_record.ensures c.in-Bad.is tt)))

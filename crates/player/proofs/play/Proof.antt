@@ -15,27 +15,27 @@ play_spec =
     (λ c. search rules)
     (λ c. search rules)
     (λ c. (
-      subst (CountPost c.before.before.before.before.before.before.args.bytes.now) c.enum_told.given.1
-          c.before.before.count-records.ensures,
+      subst (CountPost c.args.bytes.now) c.in_default.is
+          c.count_records.ensures,
       (refl, refl),
     ))
-    (λ c. let (cs, e, i) = subst (CountPost c.before.before.before.before.before.before.before.before.args.bytes.now)
-    c.before.before.count.given.1 c.before.before.before.before.count-records.ensures in
-    ((cs, e, omega (arith, c.if1.true)), (refl, refl)))
-    (λ c. let (cs, e, i) = subst (CountPost c.before.before.before.before.before.before.before.before.before.args.bytes.now)
-    c.before.before.before.count.given.1 c.before.before.before.before.before.count-records.ensures in
-    (omega arith, all_done (all_none _ _ cs e i c.if2.true) e (i ∙ c.if2.true)))
+    (λ c. let (cs, e, i) = subst (CountPost c.args.bytes.now)
+    c.in-Records.is c.count_records.ensures in
+    ((cs, e, omega (arith, c.if-list-count.true)), (refl, refl)))
+    (λ c. let (cs, e, i) = subst (CountPost c.args.bytes.now)
+    c.in-Records.is c.count_records.ensures in
+    (omega arith, all_done (all_none _ _ cs e i c.if-count-eq0.true) e (i ∙ c.if-count-eq0.true)))
     (λ c κs. let (cs, e, i) =
-    subst (CountPost c.before.before.before.before.before.before.before.before.before.before.before.args.bytes.now)
-    c.before.before.before.before.before.count.given.1
-    c.before.before.before.before.before.before.before.count-records.ensures in
-    (cs, e, omega (arith, c.before.before.before.if1.false)))
+    subst (CountPost c.args.bytes.now)
+    c.in-Records.is
+    c.count_records.ensures in
+    (cs, e, omega (arith, c.if-list-count.false)))
     (λ c. search rules)
     (λ c. search rules)
     (λ c. let (cs, e, i) =
     subst (CountPost
-    c.before.before.before.before.before.before.before.before.before.before.before.before.before.before.before.before.args.bytes.now) c.before.before.before.before.before.before.before.before.before.before.count.given.1
-    c.before.before.before.before.before.before.before.before.before.before.before.before.count-records.ensures in (
-      omega (arith, c.before.before.before.before.before.before.before.before.if1.false),
-      all_done c.before.before.before.before.obey-all.ensures e i,
+    c.args.bytes.now) c.in-Records.is
+    c.count_records.ensures in (
+      omega (arith, c.if-list-count.false),
+      all_done c.obey_all.ensures e i,
     )))

@@ -14,11 +14,11 @@ record_size_spec =
     (λ c. search rules)
     (λ c. search rules)
     (λ c. search rules)
-    (λ c. size-record c.before.before.before.before.before.args.bytes.now _ _
-    (sym c.before.before.before.read-record.ensures ∙ c.before.size.given.1))
-    (λ c. size-end c.before.before.before.before.args.bytes.now
-    (sym c.before.before.read-record.ensures ∙ c.enum_told.given.1))
-    (λ c. size-more c.before.before.before.before.args.bytes.now
-    (sym c.before.before.read-record.ensures ∙ c.enum-told2.given.1))
-    (λ c. size_bad c.before.before.before.before.args.bytes.now
-    (sym c.before.before.read-record.ensures ∙ c.enum-told3.given.1)))
+    (λ c. size-record c.args.bytes.now _ _
+    (sym c.read_record.ensures ∙ c.in-Record.is))
+    (λ c. size-end c.args.bytes.now
+    (sym c.read_record.ensures ∙ c.in-End.is))
+    (λ c. size-more c.args.bytes.now
+    (sym c.read_record.ensures ∙ c.in-More.is))
+    (λ c. size_bad c.args.bytes.now
+    (sym c.read_record.ensures ∙ c.in-Bad.is)))

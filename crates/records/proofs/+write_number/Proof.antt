@@ -37,20 +37,20 @@ pub +write_number_spec : {M : Type 1} → statement M
     write-number.Post
     (λ c. search rules)
     (λ c. search rules)
-    (λ c. omega (arith, c.before.before.requires.1))
+    (λ c. omega (arith, c.requires.1))
     (λ c. search rules)
     (λ c. search rules)
-    (λ c. number-last _ _ c.before.before.args.x (omega arith))
-    (λ c κs. (omega (arith, c.before.before.before.requires.0), omega (arith, c.before.before.before.requires.1)))
+    (λ c. number-last _ _ c.args.x (omega arith))
+    (λ c κs. (omega (arith, c.requires.0), omega (arith, c.requires.1)))
     (λ c. omega arith)
     (λ c. search rules)
     (λ c. omega (
       arith,
-      c.before.before.before.before.before.before.requires.1,
-      c.before.before.write-number.ensures.within,
-      c.before.before.write-number.auto.0,
+      c.requires.1,
+      c.write_number-last.ensures.within,
+      c.write_number-last.auto.out,
     ))
-    (λ c. omega (arith, c.before.before.before.before.before.before.requires.1, c.before.before.write-number.ensures.within))
-    (λ c. simp length-set c.before.before.write-number.auto.0)
-    (λ c. number_more c.before.before.before.before.before.before.args.x (omega arith) (omega arith)
-    c.before.before.write-number.ensures.wrote)
+    (λ c. omega (arith, c.requires.1, c.write_number-last.ensures.within))
+    (λ c. simp length-set c.write_number-last.auto.out)
+    (λ c. number_more c.args.x (omega arith) (omega arith)
+    c.write_number-last.ensures.wrote)

@@ -15,59 +15,59 @@ command_in_spec =
     (tie.spec
     (λ c. omega (
       arith,
-      eqb-true (length c.before.before.before.args.arguments.now) 3
-          (sym (takes_at 1 (length c.before.before.before.args.arguments.now) c.before.match.keys1)
-          ∙ c.before.before.before.requires),
+      eqb-true (length c.args.arguments.now) 3
+          (sym (takes_at 1 (length c.args.arguments.now) c.in-1.is)
+          ∙ c.requires),
     ))
-    (λ c. omega (arith, c.shared-slice-known2.given 0))
+    (λ c. omega (arith, c.shared_slice_known-in-1-1.given 0))
     (λ c κs. omega (
       arith,
-      eqb-true (length c.before.before.before.args.arguments.now) 3
-          (sym (takes_at 1 (length c.before.before.before.args.arguments.now) c.before.match.keys1)
-          ∙ c.before.before.before.requires),
+      eqb-true (length c.args.arguments.now) 3
+          (sym (takes_at 1 (length c.args.arguments.now) c.in-1.is)
+          ∙ c.requires),
     ))
     (λ c. search rules)
     (λ c. omega (
       arith,
-      leb-true 1 (length c.before.before.before.args.arguments.now)
-          (sym (takes_at 2 (length c.before.before.before.args.arguments.now) c.before.match.keys2)
-          ∙ c.before.before.before.requires),
+      leb-true 1 (length c.args.arguments.now)
+          (sym (takes_at 2 (length c.args.arguments.now) c.in-2.is)
+          ∙ c.requires),
     ))
-    (λ c. omega (arith, c.shared-slice-known3.given 0))
+    (λ c. omega (arith, c.shared_slice_known-in-2-1.given 0))
     (λ c. omega (
       arith,
-      leb-true 5 (length c.before.before.before.args.arguments.now)
-          (sym (takes_at 3 (length c.before.before.before.args.arguments.now) c.before.match.keys3)
-          ∙ c.before.before.before.requires),
+      leb-true 5 (length c.args.arguments.now)
+          (sym (takes_at 3 (length c.args.arguments.now) c.in-3.is)
+          ∙ c.requires),
     ))
-    (λ c. omega (arith, c.shared-slice-known4.given 0))
+    (λ c. omega (arith, c.shared_slice_known-in-3-1.given 0))
     (λ c κs. omega (
       arith,
-      leb-true 5 (length c.before.before.before.args.arguments.now)
-          (sym (takes_at 3 (length c.before.before.before.args.arguments.now) c.before.match.keys3)
-          ∙ c.before.before.before.requires),
+      leb-true 5 (length c.args.arguments.now)
+          (sym (takes_at 3 (length c.args.arguments.now) c.in-3.is)
+          ∙ c.requires),
     ))
     (λ c. omega (
       arith,
-      eqb-true (length c.before.before.before.args.arguments.now) 1
-          (sym (takes_at 4 (length c.before.before.before.args.arguments.now) c.before.match.keys4)
-          ∙ c.before.before.before.requires),
+      eqb-true (length c.args.arguments.now) 1
+          (sym (takes_at 4 (length c.args.arguments.now) c.in-4.is)
+          ∙ c.requires),
     ))
-    (λ c. omega (arith, c.shared-slice-known5.given 0))
+    (λ c. omega (arith, c.shared_slice_known-in-4-1.given 0))
     (λ c. omega (
       arith,
-      eqb-true (length c.before.before.before.args.arguments.now) 1
-          (sym (takes_at 5 (length c.before.before.before.args.arguments.now) c.before.match.keys5)
-          ∙ c.before.before.before.requires),
+      eqb-true (length c.args.arguments.now) 1
+          (sym (takes_at 5 (length c.args.arguments.now) c.in-5.is)
+          ∙ c.requires),
     ))
-    (λ c. omega (arith, c.shared-slice-known6.given 0))
+    (λ c. omega (arith, c.shared_slice_known-in-5-1.given 0))
     (λ c. rw c.pair.ensures
-    (sym (command_at 1 c.before.before.before.before.args.arguments.now c.before.before.match.keys1)))
-    (λ c. sym (command_at 2 c.before.before.before.args.arguments.now c.before.match.keys2))
+    (sym (command_at 1 c.args.arguments.now c.in-1.is)))
+    (λ c. sym (command_at 2 c.args.arguments.now c.in-2.is))
     (λ c. rw c.quad.ensures
-    (sym (command_at 3 c.before.before.before.before.args.arguments.now c.before.before.match.keys3)))
-    (λ c. sym (command_at 4 c.before.before.before.args.arguments.now c.before.match.keys4))
-    (λ c. sym (command_at 5 c.before.before.before.args.arguments.now c.before.match.keys5))
-    (λ c. let r = c.match.rest in
-    sym (command-last c.before.before.args.op c.before.before.args.arguments.now r.0.0.0.0.1 r.0.0.0.1
+    (sym (command_at 3 c.args.arguments.now c.in-3.is)))
+    (λ c. sym (command_at 4 c.args.arguments.now c.in-4.is))
+    (λ c. sym (command_at 5 c.args.arguments.now c.in-5.is))
+    (λ c. let r = c.in_default.in_default-own.rest in
+    sym (command-last c.args.op c.args.arguments.now r.0.0.0.0.1 r.0.0.0.1
     r.0.0.1 r.0.1 r.1)))

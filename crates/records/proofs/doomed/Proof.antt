@@ -17,42 +17,42 @@ pub doomed_spec : {M : Type 1} → statement M
 doomed_spec =
     tie.close
     (tie.spec
-    (λ c. sym (doomed-two c.before.before.args.bytes.now (omega arith)))
+    (λ c. sym (doomed-two c.args.bytes.now (omega arith)))
     (λ c κs. search rules)
     (λ c. search rules)
     (λ c. sym
-    (doomed-length c.before.before.before.before.args.bytes.now (omega arith)
-    (range-below (record_length c.before.before.before.before.args.bytes.now) (omega (arith, c.before.pair.ensures)))))
+    (doomed-length c.args.bytes.now (omega arith)
+    (range-below (record_length c.args.bytes.now) (omega (arith, c.pair-length.ensures)))))
     (λ c. sym
-    (doomed-length c.before.before.before.before.before.args.bytes.now (omega arith)
-    (range-above (record_length c.before.before.before.before.before.args.bytes.now)
-    (omega (arith, c.before.before.pair.ensures)))))
+    (doomed-length c.args.bytes.now (omega arith)
+    (range-above (record_length c.args.bytes.now)
+    (omega (arith, c.pair-length.ensures)))))
     (λ c. sym
-    (doomed_three c.before.before.before.before.before.before.args.bytes.now (omega arith)
-    (range-within (record_length c.before.before.before.before.before.before.args.bytes.now)
-    (omega (arith, c.before.before.before.pair.ensures)) (omega (arith, c.before.before.before.pair.ensures)))))
+    (doomed_three c.args.bytes.now (omega arith)
+    (range-within (record_length c.args.bytes.now)
+    (omega (arith, c.pair-length.ensures)) (omega (arith, c.pair-length.ensures)))))
     (λ c. search rules)
     (λ c. sym
-    (doomed_version c.before.before.before.before.before.before.before.before.args.bytes.now (omega arith) c.if5.true
-    (range-within (record_length c.before.before.before.before.before.before.before.before.args.bytes.now)
-    (omega (arith, c.before.before.before.before.before.pair.ensures))
-    (omega (arith, c.before.before.before.before.before.pair.ensures)))))
+    (doomed_version c.args.bytes.now (omega arith) c.if-bytes-ne-VERSION.true
+    (range-within (record_length c.args.bytes.now)
+    (omega (arith, c.pair-length.ensures))
+    (omega (arith, c.pair-length.ensures)))))
     (λ c. sym
-    (doomed_four c.before.before.before.before.before.before.before.before.before.args.bytes.now (omega arith)
-    (omega arith) c.before.if5.false
-    (range-within (record_length c.before.before.before.before.before.before.before.before.before.args.bytes.now)
-    (omega (arith, c.before.before.before.before.before.before.pair.ensures))
-    (omega (arith, c.before.before.before.before.before.before.pair.ensures)))))
+    (doomed_four c.args.bytes.now (omega arith)
+    (omega arith) c.if-bytes-ne-VERSION.false
+    (range-within (record_length c.args.bytes.now)
+    (omega (arith, c.pair-length.ensures))
+    (omega (arith, c.pair-length.ensures)))))
     (λ c. search rules)
     (λ c κs. search rules)
     (λ c. ap not
     (c.takes.ensures
     ∙ ap (λ (k : ℕ). takes
-    (get_or c.before.before.before.before.before.before.before.before.before.before.before.args.bytes.now 3 0) (k - 2))
-    c.before.before.before.before.before.before.before.before.pair.ensures)
-    ∙ sym (doomed-takes c.before.before.before.before.before.before.before.before.before.before.before.args.bytes.now
-    (omega arith) c.before.before.before.if5.false
+    (get_or c.args.bytes.now 3 0) (k - 2))
+    c.pair-length.ensures)
+    ∙ sym (doomed-takes c.args.bytes.now
+    (omega arith) c.if-bytes-ne-VERSION.false
     (range-within
-    (record_length c.before.before.before.before.before.before.before.before.before.before.before.args.bytes.now)
-    (omega (arith, c.before.before.before.before.before.before.before.before.pair.ensures))
-    (omega (arith, c.before.before.before.before.before.before.before.before.pair.ensures))))))
+    (record_length c.args.bytes.now)
+    (omega (arith, c.pair-length.ensures))
+    (omega (arith, c.pair-length.ensures))))))

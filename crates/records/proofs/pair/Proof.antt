@@ -11,14 +11,14 @@ pair_spec =
     tie.close
     (tie.spec
     (λ c. search rules)
-    (λ c. omega (arith, c.shared-slice-known.given c.before.args.at))
-    (λ c. omega (arith, c.shared-slice-known.given c.before.args.at))
+    (λ c. omega (arith, c.shared_slice_known-1.given c.args.at))
+    (λ c. omega (arith, c.shared_slice_known-1.given c.args.at))
     (λ c. search rules)
     (λ c. search rules)
-    (λ c. omega (arith, c.before.shared-slice-known.given (c.before.before.args.at + 1)))
+    (λ c. omega (arith, c.shared_slice_known-1.given (c.args.at + 1)))
     (λ c. omega (
       arith,
-      c.before.shared-slice-known.given c.before.before.args.at,
-      c.before.shared-slice-known.given (c.before.before.args.at + 1),
+      c.shared_slice_known-1.given c.args.at,
+      c.shared_slice_known-1.given (c.args.at + 1),
     ))
     (λ c. search rules))

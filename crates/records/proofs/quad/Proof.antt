@@ -19,10 +19,10 @@ quad_spec =
     (λ c κs. search rules)
     (λ c. search rules)
     (λ c. search rules)
-    (λ c. let e : c.before.before.before.args.at + 2 + 1 ≡ c.before.before.before.args.at + 3 = omega arith in
+    (λ c. let e : c.args.at + 2 + 1 ≡ c.args.at + 3 = omega arith in
     omega (
       arith,
-      c.before.pair.ensures,
-      c.pair2.ensures,
-      ap (λ (k : ℕ). get_or c.before.before.before.args.bytes.now k 0) e,
+      c.pair.ensures,
+      c.pair-2.ensures,
+      ap (λ (k : ℕ). get_or c.args.bytes.now k 0) e,
     )))

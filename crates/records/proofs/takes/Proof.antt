@@ -8,12 +8,12 @@ use Rattle.records.proofs.takes.Tie as tie
 pub takes_spec : {M : Type 1} → statement M
 takes_spec =
     tie.close
-    (tie.spec (λ c. sym (takes_at 1 c.before.args.count c.match.keys1))
-    (λ c. sym (takes_at 2 c.before.args.count c.match.keys2))
-    (λ c. sym (takes_at 3 c.before.args.count c.match.keys3))
-    (λ c. sym (takes_at 4 c.before.args.count c.match.keys4))
-    (λ c. sym (takes_at 5 c.before.args.count c.match.keys5))
-    (λ c. sym (takes_at 6 c.before.args.count c.match.keys6))
-    (λ c. let r = c.match.rest in
-    sym (takes_none c.before.args.op c.before.args.count r.0.0.0.0.0.1 r.0.0.0.0.1 r.0.0.0.1 r.0.0.1
+    (tie.spec (λ c. sym (takes_at 1 c.args.count c.in-1.is))
+    (λ c. sym (takes_at 2 c.args.count c.in-2.is))
+    (λ c. sym (takes_at 3 c.args.count c.in-3.is))
+    (λ c. sym (takes_at 4 c.args.count c.in-4.is))
+    (λ c. sym (takes_at 5 c.args.count c.in-5.is))
+    (λ c. sym (takes_at 6 c.args.count c.in-6.is))
+    (λ c. let r = c.in_default.in_default-own.rest in
+    sym (takes_none c.args.op c.args.count r.0.0.0.0.0.1 r.0.0.0.0.1 r.0.0.0.1 r.0.0.1
     r.0.1 r.1)))

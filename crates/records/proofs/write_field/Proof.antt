@@ -10,7 +10,7 @@ pub write_field_spec : {M : Type 1} → statement M
 write_field_spec =
     tie.close
     (tie.spec (λ c κs. search rules)
-    (λ c. omega (arith, c.before.before.write-number.ensures.within, c.before.before.write-number.auto.0))
-    (λ c. omega (arith, c.before.before.write-number.ensures.within)) (λ c. search rules)
-    (λ c. wrote_field c.before.before.before.before.before.args.x c.before.before.before.before.before.args.after
-    c.before.before.write-number.ensures))
+    (λ c. omega (arith, c.write_number-end.ensures.within, c.write_number-end.auto.out))
+    (λ c. omega (arith, c.write_number-end.ensures.within)) (λ c. search rules)
+    (λ c. wrote_field c.args.x c.args.after
+    c.write_number-end.ensures))

@@ -11,28 +11,28 @@ write_line_spec =
     tie.close
     (tie.spec
     (λ c κs. search rules)
-    (λ c κs. omega (arith, c.before.before.before.write-field.ensures.within, c.before.before.before.write-field.auto.0))
+    (λ c κs. omega (arith, c.write_field-second.ensures.within, c.write_field-second.auto.out))
     (λ c κs. omega (
       arith,
-      c.before.before.before.before.before.before.before.write-field.ensures.within,
-      c.before.before.before.before.before.before.before.write-field.auto.0,
-      c.before.before.before.write-field2.ensures.within,
-      c.before.before.before.write-field2.auto.0,
+      c.write_field-second.ensures.within,
+      c.write_field-second.auto.out,
+      c.write_field-third.ensures.within,
+      c.write_field-third.auto.out,
     ))
     (λ c κs. omega (
       arith,
-      c.before.before.before.before.before.before.before.before.before.before.before.write-field.ensures.within,
-      c.before.before.before.before.before.before.before.before.before.before.before.write-field.auto.0,
-      c.before.before.before.before.before.before.before.write-field2.ensures.within,
-      c.before.before.before.before.before.before.before.write-field2.auto.0,
-      c.before.before.before.write-field3.ensures.within,
-      c.before.before.before.write-field3.auto.0,
+      c.write_field-second.ensures.within,
+      c.write_field-second.auto.out,
+      c.write_field-third.ensures.within,
+      c.write_field-third.auto.out,
+      c.write_field-fourth.ensures.within,
+      c.write_field-fourth.auto.out,
     ))
     (λ c. search rules)
     (λ c. wrote-line
-    c.before.before.before.before.before.before.before.before.before.before.before.before.before.before.before.before.before.args.op
-    c.before.before.before.before.before.before.before.before.before.before.before.before.before.before.before.before.before.args.number
-    c.before.before.before.before.before.before.before.before.before.before.before.before.before.before.before.before.before.args.value
-    c.before.before.before.before.before.before.before.before.before.before.before.before.before.before.before.before.before.args.rounds
-    c.before.before.before.before.before.before.before.before.before.before.before.before.before.before.write-field.ensures c.before.before.before.before.before.before.before.before.before.before.write-field2.ensures
-    c.before.before.before.before.before.before.write-field3.ensures c.before.before.write-field4.ensures))
+    c.args.op
+    c.args.number
+    c.args.value
+    c.args.rounds
+    c.write_field-second.ensures c.write_field-third.ensures
+    c.write_field-fourth.ensures c.write_field.ensures))

@@ -10,10 +10,10 @@ use Rattle.records.proofs.TextLaws.{wrote_none, wrote-turn, wrote-all}
 use Rattle.records.proofs.write_text.Statement.{statement}
 use Rattle.records.proofs.write_text.Tie as tie
 
-abbrev invariant_loop : tie.invariant_loop
+abbrev invariant_loop : tie.invariant-loop-i
 invariant_loop out₀ at text i₀ out i = (i ≤ length text) × (length out ≡ length out₀) × Wrote out₀ at (take i text) out (at + i)
 
-abbrev decreases_loop : tie.decreases_loop
+abbrev decreases_loop : tie.decreases-loop-i
 decreases_loop out₀ at text i₀ out i = length text - i
 
 pub write_text_spec : {M : Type 1} → statement M
@@ -28,7 +28,7 @@ write_text_spec =
     (λ c. search rules)
     (λ c. search rules)
     (λ c. search rules)
-    (λ c. (omega arith, simp length-set c.before.before.loop.invariant.1, wrote-turn _ _ (omega arith) c.before.before.loop.invariant.2))
+    (λ c. (omega arith, simp length-set c.loop-i.invariant.1, wrote-turn _ _ (omega arith) c.loop-i.invariant.2))
     (λ c. search rules)
-    (λ c. c.before.loop.invariant.1)
-    (λ c. wrote-all _ _ (omega arith) c.before.loop.invariant.2))
+    (λ c. c.loop-i.invariant.1)
+    (λ c. wrote-all _ _ (omega arith) c.loop-i.invariant.2))

@@ -13,9 +13,9 @@ after_read_spec =
     tie.close
     (tie.spec
     (λ c. search rules)
-    (λ c. omega (arith, sums_bytes c.before.before.before.args.held c.before.before.before.requires c.before.brought.given.1))
+    (λ c. omega (arith, sums_bytes c.args.held c.requires c.in-Bytes.is))
     (λ c. search rules)
     (λ c. search rules)
-    (λ c. ap (after_read c.before.before.before.args.p c.before.before.before.args.held) (sym c.before.brought.given.1))
-    (λ c. ap (after_read c.before.before.args.p c.before.before.args.held) (sym c.enum_told.given.1))
-    (λ c. ap (after_read c.before.before.args.p c.before.before.args.held) (sym c.enum-told2.given.1)))
+    (λ c. ap (after_read c.args.p c.args.held) (sym c.in-Bytes.is))
+    (λ c. ap (after_read c.args.p c.args.held) (sym c.in-End.is))
+    (λ c. ap (after_read c.args.p c.args.held) (sym c.in-Failed.is)))

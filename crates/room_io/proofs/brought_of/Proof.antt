@@ -10,7 +10,7 @@ brought_of_spec =
     tie.close
     (tie.spec
     (λ c κs. search rules)
-    (λ c. says_some c.before.before.before.args.got _ c.before.before.before.ranges.got c.before.if1.true
+    (λ c. says_some c.args.got _ c.ranges.got c.if-got-gt0.true
     c.count.ensures.1)
-    (λ c. says_failed c.before.before.before.args.got _ c.before.before.before.ranges.got c.if2.true)
-    (λ c. says-end c.before.before.before.args.got _ c.before.before.before.ranges.got c.before.if1.false c.if2.false))
+    (λ c. says_failed c.args.got _ c.ranges.got c.if-got-lt0.true)
+    (λ c. says-end c.args.got _ c.ranges.got c.if-got-gt0.false c.if-got-lt0.false))

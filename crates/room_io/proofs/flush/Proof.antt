@@ -11,6 +11,6 @@ pub flush_spec : {M : Type 1} → statement M
 flush_spec =
     tie.close
     (tie.spec
-    (λ c. sym (length-take-le _ _ (omega (arith, c.before.before.requires))))
+    (λ c. sym (length-take-le _ _ (omega (arith, c.requires))))
     (λ c κs. search rules)
     (λ c. search rules))

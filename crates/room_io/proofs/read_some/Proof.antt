@@ -12,8 +12,8 @@ read_some_spec =
     (λ c κs. search rules)
     (λ c κs. search rules)
     (λ c. search rules)
-    (λ c. read-says c.before.before.before.before.read.result _
-    (record { sfits = c.before.before.before.before.read.type-inv })
-    c.before.before.before.before.read.ensures
-    c.before.before.before.before.read.auto.1.0
-    c.brought-of.ensures))
+    (λ c. read-says c.read-got.result _
+    (record { sfits = c.read-got.type-inv })
+    c.read-got.ensures
+    c.read-got.auto.buf
+    c.brought_of.ensures))

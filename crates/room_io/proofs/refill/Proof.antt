@@ -20,21 +20,21 @@ refill_spec =
     (omega (
       arith,
       c.before.before.read_Some.auto.0,
-      c.before.before.before.before.before.before.to_front.ensures.0,
-      c.before.before.before.before.before.before.to_front.auto.0,
+      c.to_front-held.ensures.0,
+      c.to_front-held.auto.input,
     )))
     (λ c. search rules)
-    (λ c. let f = refilled c.before.before.before.before.before.before.before.before.before.before.args.p
-    c.before.before.before.before.before.before.before.before.before.before.args.input.now
-    c.before.before.before.before.before.before.before.to_front.new.0
+    (λ c. let f = refilled c.args.p
+    c.args.input.now
+    c.to_front-held.new.0
     c.before.before.before.read_Some.new.0
     (omega (
       arith,
-      c.before.before.before.before.before.before.before.to_front.ensures.0,
-      c.before.before.before.before.before.before.before.to_front.auto.0,
+      c.to_front-held.ensures.0,
+      c.to_front-held.auto.input,
     ))
-    c.before.before.before.before.before.before.before.to_front.ensures.0
-    c.before.before.before.before.before.before.before.to_front.ensures.1
+    c.to_front-held.ensures.0
+    c.to_front-held.ensures.1
     c.before.before.before.read_Some.auto.0
     c.before.before.before.read_Some.ensures
     c.after_read.ensures in (f, read-sound f)))

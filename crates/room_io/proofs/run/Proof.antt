@@ -17,7 +17,7 @@ run_spec =
     (λ c. search rules)
     (λ c κs. (
       refl,
-      omega (arith, c.before.before.before.before.buffer.ensures),
-      omega (arith, c.before.before.before.buffer2.ensures),
+      omega (arith, c.buffer-input.ensures),
+      omega (arith, c.buffer-output.ensures),
     ))
     (λ c. search rules))

@@ -12,13 +12,13 @@ use Rattle.room_io.proofs.Known.{known-first}
 use Rattle.room_io.proofs.serve.Statement.{statement}
 use Rattle.room_io.proofs.serve.Tie as tie
 
-abbrev invariant_loop : tie.invariant_loop
+abbrev invariant_loop : tie.invariant-loop-turns
 invariant_loop words₀ input₀ output₀ p₀ turns₀ words input output p turns =
     Placed p (length input) (length output) × (length words ≡ length words₀) × (length input ≡ length input₀)
     × (length output ≡ length output₀)
     × Upto words₀ input₀ output₀ turns p words input output × Says (SoundWords words) p.sound
 
-abbrev decreases_loop : tie.decreases_loop
+abbrev decreases_loop : tie.decreases-loop-turns
 decreases_loop words₀ input₀ output₀ p₀ turns₀ words input output p turns = turns
 
 pub serve_spec : {M : Type 1} → statement M
@@ -34,40 +34,40 @@ serve_spec =
         within =
             omega arith;
         waiting = omega arith;
-        enough = c.before.before.before.requires.1;
-        line = c.before.before.before.requires.2;
+        enough = c.requires.1;
+        line = c.requires.2;
       },
       refl,
       refl,
       refl,
       upto-none _ _ _,
-      known-first _ c.before.before.before.requires.0,
+      known-first _ c.requires.0,
     ))
     (λ c κs.
-    (c.before.before.before.before.before.before.loop.invariant.0, c.before.before.before.before.before.before.loop.invariant.5))
+    (c.loop-turns.invariant.0, c.loop-turns.invariant.5))
     (λ c. omega
-    (arith, c.before.before.before.before.before.before.before.before.before.before.before.before.loop-test.true))
+    (arith, c.loop-turns-test.true))
     (λ c. omega
-    (arith, c.before.before.before.before.before.before.before.before.before.before.before.before.loop-test.true))
+    (arith, c.loop-turns-test.true))
     (λ c. (
-      c.before.before.before.before.before.before.turn.ensures.0.placed,
-      c.before.before.before.before.before.before.turn.auto.0
-          ∙ c.before.before.before.before.before.before.before.before.before.before.before.before.before.loop.invariant.1,
-      c.before.before.before.before.before.before.turn.auto.1.0
-          ∙ c.before.before.before.before.before.before.before.before.before.before.before.before.before.loop.invariant.2,
-      c.before.before.before.before.before.before.turn.auto.1.1.0
-          ∙ c.before.before.before.before.before.before.before.before.before.before.before.before.before.loop.invariant.3,
-      upto_next c.before.before.before.before.before.before.before.before.before.before.before.before.before.loop.invariant.4
-          c.before.before.before.before.before.before.before.before.before.before.before.before.loop-test.true
-          c.before.before.before.before.before.before.before.before.before.before.if1.true
-          c.before.before.before.before.before.before.turn.ensures.0,
-      c.before.before.before.before.before.before.turn.ensures.1,
+      c.turn-p.ensures.0.placed,
+      c.turn-p.auto.words
+          ∙ c.loop-turns.invariant.1,
+      c.turn-p.auto.input
+          ∙ c.loop-turns.invariant.2,
+      c.turn-p.auto.output
+          ∙ c.loop-turns.invariant.3,
+      upto_next c.loop-turns.invariant.4
+          c.loop-turns-test.true
+          c.if-not-p.true
+          c.turn-p.ensures.0,
+      c.turn-p.ensures.1,
     ))
-    (λ c κs. c.before.before.loop.invariant.0.waiting)
-    (λ c. c.before.before.before.loop.invariant.1)
-    (λ c. c.before.before.before.loop.invariant.2)
-    (λ c. c.before.before.before.loop.invariant.3)
-    (λ c. upto-served c.before.before.before.before.before.before.before.requires.0
+    (λ c κs. c.loop-turns.invariant.0.waiting)
+    (λ c. c.loop-turns.invariant.1)
+    (λ c. c.loop-turns.invariant.2)
+    (λ c. c.loop-turns.invariant.3)
+    (λ c. upto-served c.requires.0
     (record {
       order =
           omega arith;
@@ -76,8 +76,8 @@ serve_spec =
       waiting =
           omega arith;
       enough =
-          c.before.before.before.before.before.before.before.requires.1;
+          c.requires.1;
       line =
-          c.before.before.before.before.before.before.before.requires.2;
-    }) c.before.before.before.loop.invariant.4
-    (⊎_elim (λ w. inl w.2.left) (λ w. inr w.left) c.before.before.loop-test.branch) c.flush.ensures))
+          c.requires.2;
+    }) c.loop-turns.invariant.4
+    (⊎_elim (λ w. inl w.2.left) (λ w. inr w.left) c.loop-turns-test.branch) c.flush.ensures))

@@ -19,39 +19,39 @@ turn_spec =
     (λ c. search rules)
     (λ c. search rules)
     (λ c. search rules)
-    (λ c κs. c.before.before.before.before.before.before.before.requires.1)
+    (λ c κs. c.requires.1)
     (λ c. search rules)
-    (λ c. let f = line_said c.before.before.before.before.before.before.before.answer.ensures.0 c.before.said.given.1 in
+    (λ c. let f = line_said c.answer-reply.ensures.0 c.in-Line.is in
     omega (
       arith,
       f.used-within,
-      c.before.before.before.before.before.before.before.before.before.before.before.before.before.before.before.requires.0.order,
-      c.before.before.before.before.before.before.before.before.before.before.before.before.before.before.before.requires.0.within,
+      c.requires.0.order,
+      c.requires.0.within,
     ))
-    (λ c. let f = line_said c.before.before.before.before.before.before.before.answer.ensures.0 c.before.said.given.1 in
+    (λ c. let f = line_said c.answer-reply.ensures.0 c.in-Line.is in
     omega (
       arith,
       f.written-within,
-      c.before.before.before.before.before.before.before.before.before.before.before.before.before.before.before.requires.0.waiting,
+      c.requires.0.waiting,
     ))
     (λ c. search rules)
-    (λ c. let f = end_said c.before.before.before.before.before.before.before.answer.ensures.0 c.before.said2.given.1 in
+    (λ c. let f = end_said c.answer-reply.ensures.0 c.in-End.is in
     omega (
       arith,
       f,
-      c.before.before.before.before.before.before.before.before.before.before.before.before.before.before.before.requires.0.waiting,
+      c.requires.0.waiting,
     ))
     (λ c. search rules)
-    (λ c κs. let f = more_said c.before.before.before.before.before.before.before.answer.ensures.0
-    c.before.enum_told.given.1 in (
-      c.before.before.before.before.before.before.before.before.before.before.before.before.before.before.before.requires.0.order,
-      c.before.before.before.before.before.before.before.before.before.before.before.before.before.before.before.requires.0.within,
+    (λ c κs. let f = more_said c.answer-reply.ensures.0
+    c.in-More.is in (
+      c.requires.0.order,
+      c.requires.0.within,
       omega (
         arith,
         f.1,
-        c.before.before.before.before.before.before.before.before.before.before.before.before.before.before.before.requires.0.order,
-        c.before.before.before.before.before.before.before.before.before.before.before.before.before.before.before.requires.0.within,
-        c.before.before.before.before.before.before.before.before.before.before.before.before.before.before.before.requires.0.enough,
+        c.requires.0.order,
+        c.requires.0.within,
+        c.requires.0.enough,
       ),
     ))
     (λ c. search rules)
@@ -61,54 +61,54 @@ turn_spec =
     (λ c. search rules)
     (λ c. (
       turned-line _ _
-          c.before.before.before.before.before.before.before.before.before.before.before.before.before.before.before.args.input.now
-          c.before.before.before.before.before.before.before.before.before.before.before.before.before.before.before.args.output.now c.before.before.before.before.before.before.before.answer.new.1.1.1.1.0
-          c.before.before.before.before.before.before.before.before.before.before.before.before.before.before.before.requires.0
-          c.before.before.before.before.before.before.before.answer.ensures.0
-          c.before.before.before.before.before.before.before.answer.auto.1.1.1.1.0 c.before.said.given.1,
-      c.before.before.before.before.before.before.before.answer.ensures.1,
+          c.args.input.now
+          c.args.output.now c.answer-reply.new.1.1.1.1.0
+          c.requires.0
+          c.answer-reply.ensures.0
+          c.answer-reply.auto.out c.in-Line.is,
+      c.answer-reply.ensures.1,
     ))
     (λ c. search rules)
     (λ c. search rules)
     (λ c. search rules)
     (λ c. (
       turned-end _ _
-          c.before.before.before.before.before.before.before.before.before.before.before.before.before.before.before.args.input.now
-          c.before.before.before.before.before.before.before.before.before.before.before.before.before.before.before.args.output.now c.before.before.before.before.before.before.before.answer.new.1.1.1.1.0
-          c.before.before.before.before.before.before.before.before.before.before.before.before.before.before.before.requires.0
-          c.before.before.before.before.before.before.before.answer.ensures.0
-          c.before.before.before.before.before.before.before.answer.auto.1.1.1.1.0 c.before.said2.given.1,
-      c.before.before.before.before.before.before.before.answer.ensures.1,
+          c.args.input.now
+          c.args.output.now c.answer-reply.new.1.1.1.1.0
+          c.requires.0
+          c.answer-reply.ensures.0
+          c.answer-reply.auto.out c.in-End.is,
+      c.answer-reply.ensures.1,
     ))
     (λ c. search rules)
     (λ c. search rules)
     (λ c. search rules)
     (λ c. (
       turned_more _ _
-          c.before.before.before.before.before.before.before.before.before.before.before.before.before.before.before.before.before.before.args.input.now
-          c.before.before.before.before.before.before.before.before.before.before.before.before.before.before.before.before.before.before.args.output.now
-          c.before.before.before.before.before.before.before.before.before.before.answer.new.1.1.1.1.0
-          c.before.before.before.before.before.before.before.before.before.before.before.before.before.before.before.before.before.before.requires.0 c.before.before.before.before.before.before.before.before.before.before.answer.ensures.0
-          c.before.before.before.before.before.before.before.before.before.before.answer.auto.1.1.1.1.0
-          c.before.before.before.before.enum_told.given.1 c.before.before.refill.auto.0
-          c.before.before.refill.ensures.0,
+          c.args.input.now
+          c.args.output.now
+          c.answer-reply.new.1.1.1.1.0
+          c.requires.0 c.answer-reply.ensures.0
+          c.answer-reply.auto.out
+          c.in-More.is c.refill.auto.input
+          c.refill.ensures.0,
       known-still _ _
-          (more_same c.before.before.before.before.before.before.before.before.before.before.answer.ensures.0
-          c.before.before.before.before.enum_told.given.1) c.before.before.refill.ensures.1
-          c.before.before.before.before.before.before.before.before.before.before.before.before.before.before.before.before.before.before.requires.1,
+          (more_same c.answer-reply.ensures.0
+          c.in-More.is) c.refill.ensures.1
+          c.requires.1,
     ))
     (λ c. search rules)
     (λ c. search rules)
     (λ c. search rules)
     (λ c. (
       turned-room _ _
-          c.before.before.before.before.before.before.before.before.before.before.before.before.before.before.before.before.args.input.now
-          c.before.before.before.before.before.before.before.before.before.before.before.before.before.before.before.before.args.output.now c.before.before.before.before.before.before.before.before.answer.new.1.1.1.1.0
-          c.before.before.before.before.before.before.before.before.before.before.before.before.before.before.before.before.requires.0 c.before.before.before.before.before.before.before.before.answer.ensures.0
-          c.before.before.before.before.before.before.before.before.answer.auto.1.1.1.1.0
-          c.before.before.enum-told2.given.1 c.flush.ensures,
+          c.args.input.now
+          c.args.output.now c.answer-reply.new.1.1.1.1.0
+          c.requires.0 c.answer-reply.ensures.0
+          c.answer-reply.auto.out
+          c.in-Room.is c.flush.ensures,
       known-still _ _
-          (room-same c.before.before.before.before.before.before.before.before.answer.ensures.0
-          c.before.before.enum-told2.given.1) (write_sound c.flush.ensures)
-          c.before.before.before.before.before.before.before.before.before.before.before.before.before.before.before.before.requires.1,
+          (room-same c.answer-reply.ensures.0
+          c.in-Room.is) (write_sound c.flush.ensures)
+          c.requires.1,
     )))

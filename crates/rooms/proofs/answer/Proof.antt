@@ -12,8 +12,8 @@ pub answer_spec : {M : Type 1} → statement M
 answer_spec =
     tie.close
     (tie.spec
-    (λ c. (replies-room _ _ _ _ c.if1.true, c.before.before.before.before.requires))
-    (λ c κs. c.before.before.before.before.before.requires)
+    (λ c. (replies-room _ _ _ _ c.if-out-lt-LINE.true, c.requires))
+    (λ c κs. c.requires)
     (λ c. search rules)
     (λ c κs. search rules)
     (λ c κs. search rules)
@@ -26,43 +26,43 @@ answer_spec =
     (λ c. search rules)
     (λ c. (
       replies-line _ _ _ _ _ _
-          c.before.before.before.before.before.before.before.before.before.before.before.before.if1.false
-          c.before.before.before.before.before.before.before.before.before.before.take-record.ensures _ _ _
-          c.before.before.before.before.before.before.outcome.given.1 c.before.before.before.write-line.ensures,
+          c.if-out-lt-LINE.false
+          c.take_record.ensures _ _ _
+          c.in-Done.is c.write_line-written.ensures,
       obeyed-sound
-          c.before.before.before.before.before.before.before.before.before.before.before.before.before.before.before.before.args.bytes.now
-          c.before.before.before.before.before.before.before.before.before.before.before.before.before.before.before.before.args.ended _ _ _ c.before.before.before.before.before.before.before.before.before.before.take-record.ensures
-          c.before.before.before.before.before.before.outcome.given.1
-          c.before.before.before.before.before.before.before.before.before.before.before.before.before.before.before.before.requires c.sound-after.ensures,
+          c.args.bytes.now
+          c.args.ended _ _ _ c.take_record.ensures
+          c.in-Done.is
+          c.requires c.sound_after.ensures,
     ))
     (λ c. search rules)
     (λ c. search rules)
     (λ c. (
-      replies-end _ _ _ _ _ _ c.before.before.before.before.before.before.before.before.before.before.if1.false
-          c.before.before.before.before.before.before.before.before.take-record.ensures _
-          c.before.before.before.before.enum_told.given.1 c.before.before.write-end.ensures,
+      replies-end _ _ _ _ _ _ c.if-out-lt-LINE.false
+          c.take_record.ensures _
+          c.in-End.is c.write_end-written.ensures,
       taken-says
-          c.before.before.before.before.before.before.before.before.before.before.before.before.before.before.args.bytes.now c.before.before.before.before.before.before.before.before.before.before.before.before.before.before.args.ended _ _ _ End c.before.before.before.before.before.before.before.before.take-record.ensures
-          c.before.before.before.before.enum_told.given.1
-          c.before.before.before.before.before.before.before.before.before.before.before.before.before.before.requires,
+          c.args.bytes.now c.args.ended _ _ _ End c.take_record.ensures
+          c.in-End.is
+          c.requires,
     ))
     (λ c. search rules)
     (λ c. (
-      replies-more _ _ _ _ _ _ c.before.before.before.before.before.before.if1.false
-          c.before.before.before.before.take-record.ensures c.enum-told2.given.1 refl,
-      taken-says c.before.before.before.before.before.before.before.before.before.before.args.bytes.now
-          c.before.before.before.before.before.before.before.before.before.before.args.ended _ _ _ More
-          c.before.before.before.before.take-record.ensures c.enum-told2.given.1
-          c.before.before.before.before.before.before.before.before.before.before.requires,
+      replies-more _ _ _ _ _ _ c.if-out-lt-LINE.false
+          c.take_record.ensures c.in-More.is refl,
+      taken-says c.args.bytes.now
+          c.args.ended _ _ _ More
+          c.take_record.ensures c.in-More.is
+          c.requires,
     ))
     (λ c. search rules)
     (λ c. search rules)
     (λ c. (
-      replies_bad _ _ _ _ _ _ c.before.before.before.before.before.before.before.before.before.before.if1.false
-          c.before.before.before.before.before.before.before.before.take-record.ensures _
-          c.before.before.before.before.enum-told3.given.1 c.before.before.write-end2.ensures,
+      replies_bad _ _ _ _ _ _ c.if-out-lt-LINE.false
+          c.take_record.ensures _
+          c.in-Bad.is c.write_end-written-in-Bad.ensures,
       taken-says
-          c.before.before.before.before.before.before.before.before.before.before.before.before.before.before.args.bytes.now c.before.before.before.before.before.before.before.before.before.before.before.before.before.before.args.ended _ _ _ Bad c.before.before.before.before.before.before.before.before.take-record.ensures
-          c.before.before.before.before.enum-told3.given.1
-          c.before.before.before.before.before.before.before.before.before.before.before.before.before.before.requires,
+          c.args.bytes.now c.args.ended _ _ _ Bad c.take_record.ensures
+          c.in-Bad.is
+          c.requires,
     )))

@@ -17,28 +17,28 @@ find_run_spec =
     (λ c. search rules)
     (λ c κs. (
       find-asks
-          c.before.before.before.before.before.before.before.before.before.before.before.before.before.before.before.before.requires.0 c.before.before.before.before.before.before.before.before.before.before.reach.ensures.0
-          c.before.before.before.before.reached.given.1,
-      c.before.before.before.before.before.before.before.before.before.before.reach.ensures.1,
+          c.requires.0 c.reach-reached.ensures.0
+          c.in-At.is,
+      c.reach-reached.ensures.1,
     ))
     (λ c. search rules)
     (λ c. search rules)
-    (λ c. c.before.before.before.before.before.before.write-run.auto.0
-    ∙ c.before.before.before.before.before.before.before.before.before.before.before.before.before.before.before.before.before.reach.auto.0)
-    (λ c. c.before.before.before.before.before.before.write-run.auto.1.0
-    ∙ c.before.before.before.before.before.before.before.before.before.before.before.before.before.before.before.before.before.reach.auto.1.0)
-    (λ c. c.before.before.before.before.before.before.write-run.auto.1.1.0)
+    (λ c. c.write_run.auto.words
+    ∙ c.reach-reached.auto.words)
+    (λ c. c.write_run.auto.counts
+    ∙ c.reach-reached.auto.counts)
+    (λ c. c.write_run.auto.list)
     (λ c. find_run_lem
-    c.before.before.before.before.before.before.before.before.before.before.before.before.before.before.before.before.before.before.before.before.before.before.before.requires.0
-    c.before.before.before.before.before.before.before.before.before.before.before.before.before.before.before.before.before.reach.ensures.0
-    c.before.before.before.before.before.before.before.before.before.before.before.reached.given.1
-    c.before.before.before.before.before.before.before.before.before.before.before.before.before.before.before.before.before.before.before.before.before.before.before.args.list.now
-    c.before.before.before.before.before.before.write-run.ensures)
-    (λ c. c.before.before.before.before.before.before.reach.auto.0)
-    (λ c. c.before.before.before.before.before.before.reach.auto.1.0)
-    (λ c. find_none c.before.before.before.before.before.before.before.before.before.before.before.before.requires.0
-    c.before.before.before.before.before.before.reach.ensures.0 c.enum_told.given.1)
-    (λ c. c.before.before.before.before.before.before.reach.auto.0)
-    (λ c. c.before.before.before.before.before.before.reach.auto.1.0)
-    (λ c. find-full c.before.before.before.before.before.before.before.before.before.before.before.before.requires.0
-    c.before.before.before.before.before.before.reach.ensures.0 c.enum-told2.given.1))
+    c.requires.0
+    c.reach-reached.ensures.0
+    c.in-At.is
+    c.args.list.now
+    c.write_run.ensures)
+    (λ c. c.reach-reached.auto.words)
+    (λ c. c.reach-reached.auto.counts)
+    (λ c. find_none c.requires.0
+    c.reach-reached.ensures.0 c.in-Nothing.is)
+    (λ c. c.reach-reached.auto.words)
+    (λ c. c.reach-reached.auto.counts)
+    (λ c. find-full c.requires.0
+    c.reach-reached.ensures.0 c.in-Full.is))

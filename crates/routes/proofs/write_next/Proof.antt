@@ -13,7 +13,7 @@ write_next_spec =
     tie.close
     (tie.spec
     (λ c κs. search rules)
-    (λ c. let h = next_small c.before.before.before.requires c.least-next.ensures in omega arith)
+    (λ c. let h = next_small c.requires c.least_next-next.ensures in omega arith)
     (λ c. search rules)
     (λ c. search rules)
     (λ c. search rules)

@@ -16,7 +16,7 @@ use Rattle.routes.proofs.write_on.Tie as tie
 use Rattle.routes.proofs.write_on.Reads as reads
 use Rattle.routes.proofs.write_on.Lts as lts
 
-abbrev invariant_loop : tie.invariant_loop
+abbrev invariant_loop : tie.invariant-loop-left
 invariant_loop words₀ counts₀ list₀ limits relation b d first s₀ left₀ at₀ words counts list s left at =
     (length words ≡ length words₀) × (length counts ≡ length counts₀) × (length list ≡ length list₀) × (at + left ≡ suc d) × (1 ≤ at)
     × CountsOf (view limits.rows words) counts
@@ -24,7 +24,7 @@ invariant_loop words₀ counts₀ list₀ limits relation b d first s₀ left₀
     → Writing limits.bits limits.limit (view limits.rows words₀) (view limits.rows words) relation b S d first list₀ list s left
     at)
 
-abbrev decreases_loop : tie.decreases_loop
+abbrev decreases_loop : tie.decreases-loop-left
 decreases_loop words₀ counts₀ list₀ limits relation b d first s₀ left₀ at₀ words counts list s left at = left
 
 pub write_on_spec : {M : Type 1} → statement M
@@ -39,67 +39,67 @@ write_on_spec =
       refl,
       omega arith,
       omega arith,
-      c.before.before.before.requires.1,
+      c.requires.1,
       λ S r. write_starts
-          c.before.before.before.requires.0 S r,
+          c.requires.0 S r,
     ))
-    (λ c. omega (arith, c.loop-test.true))
+    (λ c. omega (arith, c.loop-left-test.true))
     (λ c κs. (
-      write_again c.before.before.before.before.before.before.before.requires.0 c.before.before.before.loop.invariant.6
-          c.before.before.loop-test.true (omega
-          (arith, c.before.before.before.loop.invariant.3, c.before.before.before.loop.invariant.4)),
-      c.before.before.before.loop.invariant.5,
+      write_again c.requires.0 c.loop-left.invariant.6
+          c.loop-left-test.true (omega
+          (arith, c.loop-left.invariant.3, c.loop-left.invariant.4)),
+      c.loop-left.invariant.5,
     ))
     (λ c κs. next-asks
-    c.before.before.before.before.before.before.before.before.before.before.before.before.before.before.requires.0
-    c.before.before.before.before.before.before.before.before.before.before.loop.invariant.6
-    c.before.before.before.before.before.before.make-layer.ensures.0
-    c.before.before.before.before.before.before.before.before.before.loop-test.true (omega (
+    c.requires.0
+    c.loop-left.invariant.6
+    c.make_layer-x.ensures.0
+    c.loop-left-test.true (omega (
       arith,
-      c.before.before.before.before.before.before.before.before.before.before.loop.invariant.2,
-      c.before.before.before.before.before.before.before.before.before.before.loop.invariant.3,
-      c.before.before.before.before.before.before.before.before.before.before.before.before.before.before.requires.0.room,
-      c.before.before.before.before.before.before.before.before.before.loop-test.true,
+      c.loop-left.invariant.2,
+      c.loop-left.invariant.3,
+      c.requires.0.room,
+      c.loop-left-test.true,
     )))
     (λ c. omega (
       arith,
-      c.before.before.before.before.before.before.before.before.before.before.before.before.before.loop.invariant.2,
-      c.before.before.before.before.before.before.before.before.before.before.before.before.before.loop.invariant.3,
-      c.before.before.before.before.before.before.before.before.before.before.before.before.before.before.before.before.before.requires.0.room,
-      c.before.before.before.before.before.before.before.before.before.before.before.before.loop-test.true,
+      c.loop-left.invariant.2,
+      c.loop-left.invariant.3,
+      c.requires.0.room,
+      c.loop-left-test.true,
     ))
     (λ c. omega (
       arith,
-      c.before.before.before.before.before.before.before.before.before.before.before.before.loop-test.true,
+      c.loop-left-test.true,
     ))
     (λ c. (
-      c.before.before.before.before.before.before.before.before.before.make-layer.auto.0
-          ∙ c.before.before.before.before.before.before.before.before.before.before.before.before.before.loop.invariant.0,
-      c.before.before.before.before.before.before.before.before.before.make-layer.auto.1.0
-          ∙ c.before.before.before.before.before.before.before.before.before.before.before.before.before.loop.invariant.1,
+      c.make_layer-x.auto.words
+          ∙ c.loop-left.invariant.0,
+      c.make_layer-x.auto.counts
+          ∙ c.loop-left.invariant.1,
       ap length
-          c.before.before.write-next.ensures.list ∙ length-set
-          c.before.before.before.before.before.before.before.before.before.before.before.before.before.loop.list
-          c.before.before.before.before.before.before.before.before.before.before.before.before.before.loop.at _
-          ∙ c.before.before.before.before.before.before.before.before.before.before.before.before.before.loop.invariant.2,
+          c.write_next-s.ensures.list ∙ length-set
+          c.loop-left.list
+          c.loop-left.at _
+          ∙ c.loop-left.invariant.2,
       omega (
         arith,
-        c.before.before.before.before.before.before.before.before.before.before.before.before.before.loop.invariant.3,
-        c.before.before.before.before.before.before.before.before.before.before.before.before.loop-test.true,
+        c.loop-left.invariant.3,
+        c.loop-left-test.true,
       ),
       omega (
         arith,
-        c.before.before.before.before.before.before.before.before.before.before.before.before.before.loop.invariant.4,
+        c.loop-left.invariant.4,
       ),
-      c.before.before.before.before.before.before.before.before.before.make-layer.ensures.1,
+      c.make_layer-x.ensures.1,
       write_turns
-          c.before.before.before.before.before.before.before.before.before.before.before.before.before.before.before.before.before.requires.0
-          c.before.before.before.before.before.before.before.before.before.before.before.before.before.loop.invariant.6
-          c.before.before.before.before.before.before.before.before.before.make-layer.ensures.0
-          c.before.before.before.before.before.before.before.before.before.before.before.before.loop-test.true
-          c.before.before.write-next.ensures,
+          c.requires.0
+          c.loop-left.invariant.6
+          c.make_layer-x.ensures.0
+          c.loop-left-test.true
+          c.write_next-s.ensures,
     ))
-    (λ c. c.before.loop.invariant.0)
-    (λ c. c.before.loop.invariant.1)
-    (λ c. c.before.loop.invariant.2)
-    (λ c. write_ends c.before.before.before.before.before.requires.0 c.before.loop.invariant.6 c.loop-test.false))
+    (λ c. c.loop-left.invariant.0)
+    (λ c. c.loop-left.invariant.1)
+    (λ c. c.loop-left.invariant.2)
+    (λ c. write_ends c.requires.0 c.loop-left.invariant.6 c.loop-left-test.false))

@@ -13,22 +13,22 @@ pub write_run_spec : {M : Type 1} → statement M
 write_run_spec =
     tie.close
     (tie.spec
-    (λ c. run_short c.before.before.before.before.requires.0 c.if1.true)
-    (λ c. let h = first_small c.before.before.before.before.requires.0 in omega arith)
+    (λ c. run_short c.requires.0 c.if-list-d.true)
+    (λ c. let h = first_small c.requires.0 in omega arith)
     (λ c. search rules)
     (λ c κs. (
-      run-asks c.before.before.before.before.before.before.before.requires.0
-          (simp length-set (omega (arith, c.before.before.before.if1.false))),
-      c.before.before.before.before.before.before.before.requires.1,
+      run-asks c.requires.0
+          (simp length-set (omega (arith, c.if-list-d.false))),
+      c.requires.1,
     ))
     (λ c. let h =
-    c.before.before.before.before.before.before.before.before.before.before.before.before.before.before.requires.0.few in
+    c.requires.0.few in
     omega arith)
-    (λ c. c.before.before.before.before.before.before.write-on.auto.0)
-    (λ c. c.before.before.before.before.before.before.write-on.auto.1.0)
-    (λ c. simp length-set at c.before.before.before.before.before.before.write-on.auto.1.1.0)
+    (λ c. c.write_on.auto.words)
+    (λ c. c.write_on.auto.counts)
+    (λ c. simp length-set at c.write_on.auto.list)
     (λ c. run-written
-    c.before.before.before.before.before.before.before.before.before.before.before.before.before.before.requires.0
-    c.before.before.before.before.before.before.before.before.before.before.before.before.before.before.args.list.now
-    (omega (arith, c.before.before.before.before.before.before.before.before.before.before.if1.false))
-    c.before.before.before.before.before.before.write-on.ensures))
+    c.requires.0
+    c.args.list.now
+    (omega (arith, c.if-list-d.false))
+    c.write_on.ensures))

@@ -57,25 +57,25 @@ pub +mark_part_mark_row_spec : {M : Type 1} → statement M
     (mark_part-at t)
     mark-part.Post
     (λ c κs. search rules)
-    (λ c. marks_constant _ _ _ (test_no c.before.is_row_lem.ensures c.if1.true))
-    (λ c κs. test_yes c.before.before.is_row_lem.ensures c.before.if1.false)
-    (λ c κs. let s = step _ c.before.before.before.before.before.before.requires.1
-    (test_yes c.before.before.before.is_row_lem.ensures c.before.before.if1.false) c.row_of.ensures in
-    let b = c.before.before.before.before.before.before.requires.1.base.room in let r = s.row in omega arith)
+    (λ c. marks_constant _ _ _ (test_no c.is_row.ensures c.if-not-is_row.true-raw))
+    (λ c κs. test_yes c.is_row.ensures c.if-not-is_row.false-raw)
+    (λ c κs. let s = step _ c.requires.1
+    (test_yes c.is_row.ensures c.if-not-is_row.false-raw) c.row_of.ensures in
+    let b = c.requires.1.base.room in let r = s.row in omega arith)
     (λ c. search rules)
     (λ c. marks_again _ _ _
-    (test_yes c.before.before.before.before.before.is_row_lem.ensures c.before.before.before.before.if1.false)
-    c.before.before.row_of.ensures (sym c.before.marked.ensures ∙ c.if2.true))
+    (test_yes c.is_row.ensures c.if-not-is_row.false-raw)
+    c.row_of.ensures (sym c.marked.ensures ∙ c.if-marked.true))
     (λ c κs. (
-      rw (← c.before.before.before.before.before.before.before.before.before.requires.0) (omega arith),
+      rw (← c.requires.0) (omega arith),
       (
-        c.before.before.before.before.before.before.before.before.before.requires.1,
-        test_yes c.before.before.before.before.before.before.is_row_lem.ensures
-            c.before.before.before.before.before.if1.false,
+        c.requires.1,
+        test_yes c.is_row.ensures
+            c.if-not-is_row.false-raw,
       ),
     ))
     (λ c. search rules)
-    (λ c. c.before.before.mark-row.ensures))
+    (λ c. c.mark_row.ensures))
     λ t. mark-row-lts.spec (
       row-of-reads.Asked,
       row-of-reads.Learnt,
@@ -88,42 +88,42 @@ pub +mark_part_mark_row_spec : {M : Type 1} → statement M
     )
     (mark_row-at t)
     mark-row.Post
-    (λ c κs. c.before.before.requires.1.1)
-    (λ c κs. let s = step _ c.before.before.before.before.requires.1.0 c.before.before.before.before.requires.1.1
-    c.before.row_of.ensures in
-    let w = c.before.before.before.before.requires.1.0.base.words in let h = s.row in (h, omega arith, w))
-    (λ c κs. let s = step _ c.before.before.before.before.before.requires.1.0 c.before.before.before.before.before.requires.1.1
-    c.before.before.row_of.ensures in
-    called s.low s.low-less c.before.before.before.before.before.requires.0 c.get.ensures refl)
-    (λ c κs. let s = step _ c.before.before.before.before.before.before.before.before.before.requires.1.0
-    c.before.before.before.before.before.before.before.before.before.requires.1.1
-    c.before.before.before.before.before.before.row_of.ensures in
-    let w = c.before.before.before.before.before.before.before.before.before.requires.1.0.base.words in
+    (λ c κs. c.requires.1.1)
+    (λ c κs. let s = step _ c.requires.1.0 c.requires.1.1
+    c.row_of-i.ensures in
+    let w = c.requires.1.0.base.words in let h = s.row in (h, omega arith, w))
+    (λ c κs. let s = step _ c.requires.1.0 c.requires.1.1
+    c.row_of-i.ensures in
+    called s.low s.low-less c.requires.0 c.get.ensures refl)
+    (λ c κs. let s = step _ c.requires.1.0
+    c.requires.1.1
+    c.row_of-i.ensures in
+    let w = c.requires.1.0.base.words in
     let h = s.row in (h, omega arith, w))
-    (λ c κs. let s = step _ c.before.before.before.before.before.before.before.before.before.before.requires.1.0
-    c.before.before.before.before.before.before.before.before.before.before.requires.1.1
-    c.before.before.before.before.before.before.before.row_of.ensures in
-    called s.high s.high-less c.before.before.before.before.before.before.before.before.before.before.requires.0
-    c.get2.ensures c.before.before.before.before.mark-part.auto.1.1.0)
+    (λ c κs. let s = step _ c.requires.1.0
+    c.requires.1.1
+    c.row_of-i.ensures in
+    called s.high s.high-less c.requires.0
+    c.get-2.ensures c.mark_part.auto.marks)
     (λ c κs. let s = step _
-    c.before.before.before.before.before.before.before.before.before.before.before.before.before.before.requires.1.0
-    c.before.before.before.before.before.before.before.before.before.before.before.before.before.before.requires.1.1
-    c.before.before.before.before.before.before.before.before.before.before.before.row_of.ensures in
+    c.requires.1.0
+    c.requires.1.1
+    c.row_of-i.ensures in
     let b =
-    c.before.before.before.before.before.before.before.before.before.before.before.before.before.before.requires.1.0.base.room in let r =
+    c.requires.1.0.base.room in let r =
     s.row in
     omega (
       arith,
-      c.before.before.before.before.before.before.before.before.mark-part.auto.1.1.0,
-      c.before.before.before.mark-part2.auto.1.1.0,
+      c.mark_part.auto.marks,
+      c.mark_part-2.auto.marks,
     ))
-    (λ c. c.before.before.set-mark.auto.0 ∙ c.before.before.before.before.before.before.mark-part2.auto.1.1.0
-    ∙ c.before.before.before.before.before.before.before.before.before.before.before.mark-part.auto.1.1.0)
+    (λ c. c.set_mark.auto.marks ∙ c.mark_part-2.auto.marks
+    ∙ c.mark_part.auto.marks)
     (λ c. marks-row _
-    c.before.before.before.before.before.before.before.before.before.before.before.before.before.before.before.before.before.requires.1.1
-    c.before.before.before.before.before.before.before.before.before.before.before.before.before.before.row_of.ensures
-    c.before.before.set-mark.ensures
-    c.before.before.before.before.before.before.before.before.before.before.before.mark-part.ensures
-    c.before.before.before.before.before.before.before.before.before.before.before.before.get.ensures
-    c.before.before.before.before.before.before.mark-part2.ensures
-    c.before.before.before.before.before.before.before.get2.ensures)
+    c.requires.1.1
+    c.row_of-i.ensures
+    c.set_mark.ensures
+    c.mark_part.ensures
+    c.get.ensures
+    c.mark_part-2.ensures
+    c.get-2.ensures)

@@ -12,12 +12,12 @@ first_spec =
     tie.close
     (tie.spec
     (λ c κs. search rules)
-    (λ c. let e = c.before.head.ensures in let z = sym e ∙ c.if1.true in rw z (sym (live-zero _)))
+    (λ c. let e = c.head-p.ensures in let z = sym e ∙ c.if-p-eq0.true in rw z (sym (live-zero _)))
     (λ c. search rules)
     (λ c κs. search rules)
-    (λ c. let e = c.before.before.before.head.ensures in
-    let z = not-true _ c.if2.true in
-    rw (← e) (sym (live-no _ _ c.before.before.if1.false (sym c.before.used_row.ensures ∙ z))))
-    (λ c. let e = c.before.before.before.head.ensures in
-    let z = not-false _ c.if2.false in
-    rw (← e) (sym (live-not-zero _ _ c.before.before.if1.false (sym c.before.used_row.ensures ∙ z)))))
+    (λ c. let e = c.head-p.ensures in
+    let z = not-true _ c.if-not-used_row.true-raw in
+    rw (← e) (sym (live-no _ _ c.if-p-eq0.false (sym c.used_row.ensures ∙ z))))
+    (λ c. let e = c.head-p.ensures in
+    let z = not-false _ c.if-not-used_row.false-raw in
+    rw (← e) (sym (live-not-zero _ _ c.if-p-eq0.false (sym c.used_row.ensures ∙ z)))))

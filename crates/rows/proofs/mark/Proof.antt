@@ -12,19 +12,19 @@ mark_spec =
     tie.close
     (tie.spec
     (λ c κs. search rules)
-    (λ c. marks_constant _ _ _ (test_no c.before.is_row_lem.ensures c.if1.true))
-    (λ c κs. test_yes c.before.before.is_row_lem.ensures c.before.if1.false)
-    (λ c κs. let s = step _ c.before.before.before.before.before.before.requires
-    (test_yes c.before.before.before.is_row_lem.ensures c.before.before.if1.false) c.row_of.ensures in
-    let b = c.before.before.before.before.before.before.requires.base.room in let r = s.row in omega arith)
+    (λ c. marks_constant _ _ _ (test_no c.is_row.ensures c.if-not-is_row.true-raw))
+    (λ c κs. test_yes c.is_row.ensures c.if-not-is_row.false-raw)
+    (λ c κs. let s = step _ c.requires
+    (test_yes c.is_row.ensures c.if-not-is_row.false-raw) c.row_of.ensures in
+    let b = c.requires.base.room in let r = s.row in omega arith)
     (λ c. search rules)
     (λ c. marks_again _ _ _
-    (test_yes c.before.before.before.before.before.is_row_lem.ensures c.before.before.before.before.if1.false)
-    c.before.before.row_of.ensures (sym c.before.marked.ensures ∙ c.if2.true))
+    (test_yes c.is_row.ensures c.if-not-is_row.false-raw)
+    c.row_of.ensures (sym c.marked.ensures ∙ c.if-marked.true))
     (λ c κs. (
-      c.before.before.before.before.before.before.before.before.before.requires,
-      test_yes c.before.before.before.before.before.before.is_row_lem.ensures
-          c.before.before.before.before.before.if1.false,
+      c.requires,
+      test_yes c.is_row.ensures
+          c.if-not-is_row.false-raw,
     ))
     (λ c. search rules)
     (λ c. search rules))

@@ -9,13 +9,13 @@ pub mark_ref_spec : {M : Type 1} → statement M
 mark_ref_spec =
     tie.close
     (tie.spec
-    (λ c. let e = c.if1.true in marks-none _ (λ a x. omega arith))
+    (λ c. let e = c.if-r-eq0.true in marks-none _ (λ a x. omega arith))
     (λ c. search rules)
     (λ c κs.
     record {
-      base = c.before.before.before.before.requires.base;
-      arrow = ref-arrow _ _ c.before.if1.false c.before.before.before.before.requires.ref;
+      base = c.requires.base;
+      arrow = ref-arrow _ _ c.if-r-eq0.false c.requires.ref;
     })
     (λ c. search rules)
-    (λ c. let n = c.before.before.before.before.if1.false in
-    marks-one _ c.before.before.mark.ensures (omega arith) (λ b x. omega arith)))
+    (λ c. let n = c.if-r-eq0.false in
+    marks-one _ c.mark.ensures (omega arith) (λ b x. omega arith)))

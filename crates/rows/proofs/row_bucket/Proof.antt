@@ -12,7 +12,7 @@ row_bucket_spec =
     (λ c κs. search rules)
     (λ c κs. search rules)
     (λ c. (
-      rw (c.before.before.before.get.ensures, c.before.before.get2.ensures, c.before.get3.ensures) at
-          c.bucket-of.ensures.0,
-      c.bucket-of.ensures.1,
+      rw (c.get-level.ensures, c.get-low.ensures, c.get-high.ensures) at
+          c.bucket_of.ensures.0,
+      c.bucket_of.ensures.1,
     )))

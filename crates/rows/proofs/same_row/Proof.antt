@@ -10,17 +10,17 @@ same_row_spec =
     tie.close
     (tie.spec
     (λ c κs. search rules)
-    (λ c. fails (λ q. c.if1.true (c.before.get.ensures ∙ q.level)))
+    (λ c. fails (λ q. c.if-get-level.true (c.get.ensures ∙ q.level)))
     (λ c κs. search rules)
-    (λ c. fails (λ q. c.if2.true (c.before.get2.ensures ∙ q.low)))
+    (λ c. fails (λ q. c.if-get-low.true (c.get-2.ensures ∙ q.low)))
     (λ c κs. search rules)
-    (λ c. fails (λ q. c.if3.true (c.before.get3.ensures ∙ q.high)))
+    (λ c. fails (λ q. c.if-get-high.true (c.get-3.ensures ∙ q.high)))
     (λ c. holds
     (record {
       level =
-          sym c.before.before.before.before.before.get.ensures ∙ c.before.before.before.before.if1.false;
+          sym c.get.ensures ∙ c.if-get-level.false;
       low =
-          sym c.before.before.before.get2.ensures ∙ c.before.before.if2.false;
+          sym c.get-2.ensures ∙ c.if-get-low.false;
       high =
-          sym c.before.get3.ensures ∙ c.if3.false;
+          sym c.get-3.ensures ∙ c.if-get-high.false;
     })))

@@ -15,4 +15,4 @@ set_mark_spec =
     (λ c. search rules)
     (λ c. search rules)
     (λ c. search rules)
-    (λ c. sets _ _ c.before.requires))
+    (λ c. sets _ _ c.requires))

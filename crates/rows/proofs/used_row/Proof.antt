@@ -10,21 +10,21 @@ pub used_row_spec : {M : Type 1} → statement M
 used_row_spec =
     tie.close
     (tie.spec
-    (λ c. sym (used-no _ _ _ _ _ (λ p. let l = p.row in let t = c.if1.true in omega arith)))
+    (λ c. sym (used-no _ _ _ _ _ (λ p. let l = p.row in let t = c.if-i-rows.true in omega arith)))
     (λ c κs. search rules)
     (λ c κs. search rules)
-    (λ c. let e = c.before.before.get.ensures in
-    let h = c.before.header-word.ensures in let t = c.if2.true in sym (used-no _ _ _ _ _ (λ p. let l = p.place in omega arith)))
+    (λ c. let e = c.get-k.ensures in
+    let h = c.header_word.ensures in let t = c.if-k-header_word.true in sym (used-no _ _ _ _ _ (λ p. let l = p.place in omega arith)))
     (λ c κs. search rules)
-    (λ c. let e = c.before.before.before.before.get.ensures in
-    let h = c.before.listed.ensures in sym (used-no _ _ _ _ _ (λ p. c.if3.true (h ∙ (rw e p.there)))))
-    (λ c. let e = c.before.before.before.before.get.ensures in
-    let h = c.before.before.before.header-word.ensures in
-    let l = c.before.before.if2.false in
-    let q = c.before.listed.ensures in
+    (λ c. let e = c.get-k.ensures in
+    let h = c.listed.ensures in sym (used-no _ _ _ _ _ (λ p. c.if-listed-i.true (h ∙ (rw e p.there)))))
+    (λ c. let e = c.get-k.ensures in
+    let h = c.header_word.ensures in
+    let l = c.if-k-header_word.false in
+    let q = c.listed.ensures in
     sym (used-yes _ _ _ _ _
     (record {
-      row = c.before.before.before.before.before.if1.false;
+      row = c.if-i-rows.false;
       place = omega arith;
-      there = rw (← e) (sym q ∙ c.if3.false);
+      there = rw (← e) (sym q ∙ c.if-listed-i.false);
     }))))

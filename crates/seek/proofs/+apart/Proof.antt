@@ -39,41 +39,41 @@ pub +apart_spec : {M : Type 1} → statement M
 )
     (apart-at t)
     apart.Post
-    (λ c. apart-first (view c.before.before.args.rows c.before.before.args.words.now) _ c.if1.true)
-    (λ c. apart-second (view c.before.before.before.args.rows c.before.before.before.args.words.now) _ c.if2.true)
-    (λ c κs. c.before.before.before.requires.1.0)
-    (λ c κs. c.before.before.before.before.requires.1.1)
+    (λ c. apart-first (view c.args.rows c.args.words.now) _ c.if-a-eq-NOTHING.true)
+    (λ c. apart-second (view c.args.rows c.args.words.now) _ c.if-b-eq-NOTHING.true)
+    (λ c κs. c.requires.1.0)
+    (λ c κs. c.requires.1.1)
     (λ c κs. search rules)
     (λ c. λ e. absurd (true≢false (sym e)))
-    (λ c κs. c.before.before.before.before.before.before.before.requires.1.0)
-    (λ c κs. c.before.before.before.before.before.before.before.before.requires.1.1)
+    (λ c κs. c.requires.1.0)
+    (λ c κs. c.requires.1.1)
     (λ c κs. pair_called
-    (view c.before.before.before.before.before.before.before.before.before.args.rows
-    c.before.before.before.before.before.before.before.before.before.args.words.now)
+    (view c.args.rows
+    c.args.words.now)
     (pair-less
-    (view c.before.before.before.before.before.before.before.before.before.args.rows
-    c.before.before.before.before.before.before.before.before.before.args.words.now) _ _
-    c.before.before.before.before.before.level-of.ensures c.before.before.before.before.level-of2.ensures
-    c.before.before.before.lesser.ensures c.before.before.if3.false c.before.follow-at.ensures
-    c.follow-at2.ensures) c.before.before.before.before.before.before.before.before.before.requires.0
-    c.before.follow-at.ensures.pre c.follow-at2.ensures.pre)
+    (view c.args.rows
+    c.args.words.now) _ _
+    c.level_of.ensures c.level_of-2.ensures
+    c.lesser-l.ensures c.if-l-eq-LEVEL.false c.follow_at-x.ensures
+    c.follow_at-y.ensures) c.requires.0
+    c.follow_at-x.ensures.pre c.follow_at-y.ensures.pre)
     (λ c. λ e. absurd (true≢false (sym e)))
-    (λ c κs. c.before.before.before.before.before.before.before.before.before.before.before.requires.1.0)
-    (λ c κs. c.before.before.before.before.before.before.before.before.before.before.before.before.requires.1.1)
+    (λ c κs. c.requires.1.0)
+    (λ c κs. c.requires.1.1)
     (λ c κs. pair_called
-    (view c.before.before.before.before.before.before.before.before.before.before.before.before.before.args.rows
-    c.before.before.before.before.before.before.before.before.before.before.before.before.before.args.words.now)
+    (view c.args.rows
+    c.args.words.now)
     (pair-less
-    (view c.before.before.before.before.before.before.before.before.before.before.before.before.before.args.rows
-    c.before.before.before.before.before.before.before.before.before.before.before.before.before.args.words.now) _ _
-    c.before.before.before.before.before.before.before.before.before.level-of.ensures
-    c.before.before.before.before.before.before.before.before.level-of2.ensures
-    c.before.before.before.before.before.before.before.lesser.ensures
-    c.before.before.before.before.before.before.if3.false c.before.follow-at3.ensures c.follow-at4.ensures)
-    c.before.before.before.before.before.before.before.before.before.before.before.before.before.requires.0
-    c.before.follow-at3.ensures.pre c.follow-at4.ensures.pre)
+    (view c.args.rows
+    c.args.words.now) _ _
+    c.level_of.ensures
+    c.level_of-2.ensures
+    c.lesser-l.ensures
+    c.if-l-eq-LEVEL.false c.follow_at-z.ensures c.follow_at-w.ensures)
+    c.requires.0
+    c.follow_at-z.ensures.pre c.follow_at-w.ensures.pre)
     (λ c. apart-both
-    (view c.before.before.before.before.before.before.before.before.before.before.before.before.before.before.args.rows c.before.before.before.before.before.before.before.before.before.before.before.before.before.before.args.words.now) _ _ c.before.before.before.before.before.before.follow-at.ensures
-    c.before.before.before.before.before.follow-at2.ensures c.before.before.follow-at3.ensures
-    c.before.follow-at4.ensures c.before.before.before.before.apart.ensures c.before.before.before.if4.false
-    c.apart2.ensures)
+    (view c.args.rows c.args.words.now) _ _ c.follow_at-x.ensures
+    c.follow_at-y.ensures c.follow_at-z.ensures
+    c.follow_at-w.ensures c.apart.ensures c.if-not-apart.false-raw
+    c.apart-2.ensures)

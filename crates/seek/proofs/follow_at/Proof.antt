@@ -20,38 +20,38 @@ follow_at_spec =
     tie.close
     (tie.spec
     (λ c κs. search rules)
-    (λ c. stays (view c.before.before.before.args.rows c.before.before.before.args.words.now) _ _
-    c.before.before.before.requires c.before.level-of.ensures c.if1.true)
+    (λ c. stays (view c.args.rows c.args.words.now) _ _
+    c.requires c.level_of.ensures c.if-level_of-l.true)
     (λ c κs. search rules)
     (λ c. stays_constant
-    (view c.before.before.before.before.before.args.rows c.before.before.before.before.before.args.words.now) _ _
-    c.before.before.before.before.before.requires (test_no c.before.is_row_lem.ensures c.if2.true))
-    (λ c κs. test_yes c.before.is_row_lem.ensures c.if2.false)
+    (view c.args.rows c.args.words.now) _ _
+    c.requires (test_no c.is_row.ensures c.if-not-is_row.true-raw))
+    (λ c κs. test_yes c.is_row.ensures c.if-not-is_row.false-raw)
     (λ c κs. let w =
     walk-row
-    (view c.before.before.before.before.before.before.before.args.rows
-    c.before.before.before.before.before.before.before.args.words.now) _
-    c.before.before.before.before.before.before.before.requires
-    (test_yes c.before.before.before.is_row_lem.ensures c.before.before.if2.false) c.before.row_of.ensures in
-    let b = c.before.before.before.before.before.before.before.requires.mark.base in omega arith)
+    (view c.args.rows
+    c.args.words.now) _
+    c.requires
+    (test_yes c.is_row.ensures c.if-not-is_row.false-raw) c.row_of-i.ensures in
+    let b = c.requires.mark.base in omega arith)
     (λ c. follows
-    (view c.before.before.before.before.before.before.before.before.args.rows
-    c.before.before.before.before.before.before.before.before.args.words.now) true _
-    c.before.before.before.before.before.before.before.before.requires
-    (test_yes c.before.before.before.before.is_row_lem.ensures c.before.before.before.if2.false)
-    c.before.before.row_of.ensures c.before.before.before.before.before.before.level-of.ensures
-    c.before.before.before.before.before.if1.false c.before.if3.true c.side.ensures)
+    (view c.args.rows
+    c.args.words.now) true _
+    c.requires
+    (test_yes c.is_row.ensures c.if-not-is_row.false-raw)
+    c.row_of-i.ensures c.level_of.ensures
+    c.if-level_of-l.false c.if-high.true c.side.ensures)
     (λ c κs. let w =
     walk-row
-    (view c.before.before.before.before.before.before.before.args.rows
-    c.before.before.before.before.before.before.before.args.words.now) _
-    c.before.before.before.before.before.before.before.requires
-    (test_yes c.before.before.before.is_row_lem.ensures c.before.before.if2.false) c.before.row_of.ensures in
-    let b = c.before.before.before.before.before.before.before.requires.mark.base in omega arith)
+    (view c.args.rows
+    c.args.words.now) _
+    c.requires
+    (test_yes c.is_row.ensures c.if-not-is_row.false-raw) c.row_of-i.ensures in
+    let b = c.requires.mark.base in omega arith)
     (λ c. follows
-    (view c.before.before.before.before.before.before.before.before.args.rows
-    c.before.before.before.before.before.before.before.before.args.words.now) false _
-    c.before.before.before.before.before.before.before.before.requires
-    (test_yes c.before.before.before.before.is_row_lem.ensures c.before.before.before.if2.false)
-    c.before.before.row_of.ensures c.before.before.before.before.before.before.level-of.ensures
-    c.before.before.before.before.before.if1.false c.before.if3.false c.side2.ensures))
+    (view c.args.rows
+    c.args.words.now) false _
+    c.requires
+    (test_yes c.is_row.ensures c.if-not-is_row.false-raw)
+    c.row_of-i.ensures c.level_of.ensures
+    c.if-level_of-l.false c.if-high.false c.side-2.ensures))

@@ -16,10 +16,10 @@ use Rattle.layout.proofs.row_of.Reads as row-of-reads
 use Rattle.seek.proofs.level_bit.Reads as level-bit-reads
 use Rattle.states.proofs.side.Reads as side-reads
 
-abbrev invariant_loop : tie.invariant_loop
+abbrev invariant_loop : tie.invariant-loop-i
 invariant_loop words rows a s t x₀ x = HoldsPre (view rows words) x × (holds_at (view rows words) x s t ≡ holds_at (view rows words) a s t)
 
-abbrev decreases_loop : tie.decreases_loop
+abbrev decreases_loop : tie.decreases-loop-i
 decreases_loop words rows a s t x₀ x = depth (view rows words) x
 
 pub holds_spec : {M : Type 1} → statement M
@@ -28,81 +28,81 @@ holds_spec =
     (tie.spec
     invariant_loop
     decreases_loop
-    (λ c. (c.before.requires, refl))
+    (λ c. (c.requires, refl))
     (λ c κs. search rules)
-    (λ c κs. sym c.before.is_row_lem.ensures ∙ c.if1.true)
+    (λ c κs. sym c.is_row.ensures ∙ c.loop-i-test.true)
     (λ c κs.
     (let w =
     walk-row
-    (view c.before.before.before.before.before.args.rows c.before.before.before.before.before.args.words.now) _
-    c.before.before.before.loop.invariant.0 (sym c.before.before.is_row_lem.ensures ∙ c.before.if1.true) c.row_of.ensures in
-    let b = c.before.before.before.loop.invariant.0.mark.base in omega arith))
+    (view c.args.rows c.args.words.now) _
+    c.loop-i.invariant.0 (sym c.is_row.ensures ∙ c.loop-i-test.true) c.row_of-i.ensures in
+    let b = c.loop-i.invariant.0.mark.base in omega arith))
     (λ c κs. let w =
     walk-row
-    (view c.before.before.before.before.before.before.args.rows
-    c.before.before.before.before.before.before.args.words.now) _ c.before.before.before.before.loop.invariant.0
-    (sym c.before.before.before.is_row_lem.ensures ∙ c.before.before.if1.true) c.before.row_of.ensures in
-    let e = c.get.ensures in let q = c.before.before.before.before.loop.invariant.0.bits in omega arith)
+    (view c.args.rows
+    c.args.words.now) _ c.loop-i.invariant.0
+    (sym c.is_row.ensures ∙ c.loop-i-test.true) c.row_of-i.ensures in
+    let e = c.get.ensures in let q = c.loop-i.invariant.0.bits in omega arith)
     (λ c κs.
     (let w =
     walk-row
-    (view c.before.before.before.before.before.before.before.before.args.rows
-    c.before.before.before.before.before.before.before.before.args.words.now) _
-    c.before.before.before.before.before.before.loop.invariant.0
-    (sym c.before.before.before.before.before.is_row_lem.ensures ∙ c.before.before.before.before.if1.true)
-    c.before.before.before.row_of.ensures in
-    let b = c.before.before.before.before.before.before.loop.invariant.0.mark.base in omega arith))
+    (view c.args.rows
+    c.args.words.now) _
+    c.loop-i.invariant.0
+    (sym c.is_row.ensures ∙ c.loop-i-test.true)
+    c.row_of-i.ensures in
+    let b = c.loop-i.invariant.0.mark.base in omega arith))
     (λ c. (walk-child
-    (view c.before.before.before.before.before.before.before.before.before.args.rows
-    c.before.before.before.before.before.before.before.before.before.args.words.now)
-    c.before.before.before.before.before.before.before.before.before.args.s
-    c.before.before.before.before.before.before.before.before.before.args.t _ true
-    c.before.before.before.before.before.before.before.loop.invariant.0
-    (sym c.before.before.before.before.before.before.is_row_lem.ensures ∙ c.before.before.before.before.before.if1.true)
-    c.before.before.before.before.row_of.ensures
-    (rw c.before.before.before.get.ensures at (sym c.before.before.level_bit_lem.ensures ∙ c.before.if2.true))
-    c.side.ensures).less)
+    (view c.args.rows
+    c.args.words.now)
+    c.args.s
+    c.args.t _ true
+    c.loop-i.invariant.0
+    (sym c.is_row.ensures ∙ c.loop-i-test.true)
+    c.row_of-i.ensures
+    (rw c.get.ensures at (sym c.level_bit.ensures ∙ c.if-level_bit.true))
+    c.side-x.ensures).less)
     (λ c. let d =
     walk-child
-    (view c.before.before.before.before.before.before.before.before.before.args.rows
-    c.before.before.before.before.before.before.before.before.before.args.words.now)
-    c.before.before.before.before.before.before.before.before.before.args.s
-    c.before.before.before.before.before.before.before.before.before.args.t _ true
-    c.before.before.before.before.before.before.before.loop.invariant.0
-    (sym c.before.before.before.before.before.before.is_row_lem.ensures ∙ c.before.before.before.before.before.if1.true)
-    c.before.before.before.before.row_of.ensures
-    (rw c.before.before.before.get.ensures at (sym c.before.before.level_bit_lem.ensures ∙ c.before.if2.true))
-    c.side.ensures in (d.pre, d.same ∙ c.before.before.before.before.before.before.before.loop.invariant.1))
+    (view c.args.rows
+    c.args.words.now)
+    c.args.s
+    c.args.t _ true
+    c.loop-i.invariant.0
+    (sym c.is_row.ensures ∙ c.loop-i-test.true)
+    c.row_of-i.ensures
+    (rw c.get.ensures at (sym c.level_bit.ensures ∙ c.if-level_bit.true))
+    c.side-x.ensures in (d.pre, d.same ∙ c.loop-i.invariant.1))
     (λ c κs.
     (let w =
     walk-row
-    (view c.before.before.before.before.before.before.before.before.args.rows
-    c.before.before.before.before.before.before.before.before.args.words.now) _
-    c.before.before.before.before.before.before.loop.invariant.0
-    (sym c.before.before.before.before.before.is_row_lem.ensures ∙ c.before.before.before.before.if1.true)
-    c.before.before.before.row_of.ensures in
-    let b = c.before.before.before.before.before.before.loop.invariant.0.mark.base in omega arith))
+    (view c.args.rows
+    c.args.words.now) _
+    c.loop-i.invariant.0
+    (sym c.is_row.ensures ∙ c.loop-i-test.true)
+    c.row_of-i.ensures in
+    let b = c.loop-i.invariant.0.mark.base in omega arith))
     (λ c. (walk-child
-    (view c.before.before.before.before.before.before.before.before.before.args.rows
-    c.before.before.before.before.before.before.before.before.before.args.words.now)
-    c.before.before.before.before.before.before.before.before.before.args.s
-    c.before.before.before.before.before.before.before.before.before.args.t _ false
-    c.before.before.before.before.before.before.before.loop.invariant.0
-    (sym c.before.before.before.before.before.before.is_row_lem.ensures ∙ c.before.before.before.before.before.if1.true)
-    c.before.before.before.before.row_of.ensures
-    (rw c.before.before.before.get.ensures at (sym c.before.before.level_bit_lem.ensures ∙ c.before.if2.false))
-    c.side2.ensures).less)
+    (view c.args.rows
+    c.args.words.now)
+    c.args.s
+    c.args.t _ false
+    c.loop-i.invariant.0
+    (sym c.is_row.ensures ∙ c.loop-i-test.true)
+    c.row_of-i.ensures
+    (rw c.get.ensures at (sym c.level_bit.ensures ∙ c.if-level_bit.false))
+    c.side-x-else-level_bit.ensures).less)
     (λ c. let d =
     walk-child
-    (view c.before.before.before.before.before.before.before.before.before.args.rows
-    c.before.before.before.before.before.before.before.before.before.args.words.now)
-    c.before.before.before.before.before.before.before.before.before.args.s
-    c.before.before.before.before.before.before.before.before.before.args.t _ false
-    c.before.before.before.before.before.before.before.loop.invariant.0
-    (sym c.before.before.before.before.before.before.is_row_lem.ensures ∙ c.before.before.before.before.before.if1.true)
-    c.before.before.before.before.row_of.ensures
-    (rw c.before.before.before.get.ensures at (sym c.before.before.level_bit_lem.ensures ∙ c.before.if2.false))
-    c.side2.ensures in (d.pre, d.same ∙ c.before.before.before.before.before.before.before.loop.invariant.1))
-    (λ c. walk_end (view c.before.before.before.before.args.rows c.before.before.before.before.args.words.now)
-    c.before.before.before.before.args.s c.before.before.before.before.args.t _
-    (sym c.before.is_row_lem.ensures ∙ c.if1.false) ∙ c.before.before.loop.invariant.1))
+    (view c.args.rows
+    c.args.words.now)
+    c.args.s
+    c.args.t _ false
+    c.loop-i.invariant.0
+    (sym c.is_row.ensures ∙ c.loop-i-test.true)
+    c.row_of-i.ensures
+    (rw c.get.ensures at (sym c.level_bit.ensures ∙ c.if-level_bit.false))
+    c.side-x-else-level_bit.ensures in (d.pre, d.same ∙ c.loop-i.invariant.1))
+    (λ c. walk_end (view c.args.rows c.args.words.now)
+    c.args.s c.args.t _
+    (sym c.is_row.ensures ∙ c.loop-i-test.false) ∙ c.loop-i.invariant.1))

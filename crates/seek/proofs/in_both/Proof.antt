@@ -13,6 +13,6 @@ in-both-spec =
     tie.close
     (tie.spec (λ c κs. search rules)
     (λ c. both-no _
-    (holds_at (view c.before.before.before.args.rows c.before.before.before.args.words.now)
-    c.before.before.before.args.b c.before.before.before.args.s 0) c.if1.true c.before.holds.ensures)
-    (λ c κs. search rules) (λ c. both_yes _ _ c.before.if1.false c.before.before.holds.ensures c.holds2.ensures))
+    (holds_at (view c.args.rows c.args.words.now)
+    c.args.b c.args.s 0) c.if-not-holds.true-raw c.holds.ensures)
+    (λ c κs. search rules) (λ c. both_yes _ _ c.if-not-holds.false-raw c.holds.ensures c.holds-2.ensures))

@@ -14,10 +14,10 @@ use Rattle.seek.proofs.least_common.Tie as tie
 use Rattle.seek.proofs.least_common.Reads as reads
 use Rattle.seek.proofs.least_common.Lts as lts
 
-abbrev invariant_loop : tie.invariant_loop
+abbrev invariant_loop : tie.invariant-loop-s
 invariant_loop words rows n a b states s₀ s = (states ≡ 2 ^ n) × (s ≤ states) × NoneBelow (in_both (view rows words) a b) s
 
-abbrev decreases_loop : tie.decreases_loop
+abbrev decreases_loop : tie.decreases-loop-s
 decreases_loop words rows n a b states s₀ s = states - s
 
 pub least_common_spec : {M : Type 1} → statement M
@@ -27,38 +27,38 @@ least_common_spec =
     invariant_loop
     decreases_loop
     (λ c. search rules)
-    (λ c κs. (c.before.requires.0, c.before.requires.1))
-    (λ c. apart_none (view c.before.before.before.args.rows c.before.before.before.args.words.now) _ _
-    (power_fits c.before.before.before.args.n c.before.before.before.requires.2) c.before.apart.ensures c.if1.true)
+    (λ c κs. (c.requires.0, c.requires.1))
+    (λ c. apart_none (view c.args.rows c.args.words.now) _ _
+    (power_fits c.args.n c.requires.2) c.apart.ensures c.if-apart.true)
     (λ c. (
-      power_fits c.before.before.before.args.n c.before.before.before.requires.2,
+      power_fits c.args.n c.requires.2,
       omega arith,
       none-start
-          (in_both (view c.before.before.before.args.rows c.before.before.before.args.words.now)
-          c.before.before.before.args.a c.before.before.before.args.b),
+          (in_both (view c.args.rows c.args.words.now)
+          c.args.a c.args.b),
     ))
-    (λ c κs. (c.before.before.before.before.before.requires.0, c.before.before.before.before.before.requires.1))
-    (λ c. search-found {k = 2 ^ c.before.before.before.before.before.before.before.args.n}
+    (λ c κs. (c.requires.0, c.requires.1))
+    (λ c. search-found {k = 2 ^ c.args.n}
     (in_both
-    (view c.before.before.before.before.before.before.before.args.rows
-    c.before.before.before.before.before.before.before.args.words.now)
-    c.before.before.before.before.before.before.before.args.a
-    c.before.before.before.before.before.before.before.args.b) _ (omega arith) c.before.before.before.loop.invariant.2
-    (sym c.before.in_both.ensures ∙ c.if2.true))
+    (view c.args.rows
+    c.args.words.now)
+    c.args.a
+    c.args.b) _ (omega arith) c.loop-s.invariant.2
+    (sym c.in_both.ensures ∙ c.if-in_both.true))
     (λ c. search rules)
     (λ c. search rules)
     (λ c. (
-      c.before.before.before.loop.invariant.0,
+      c.loop-s.invariant.0,
       omega arith,
       none-next
           (in_both
-          (view c.before.before.before.before.before.before.before.args.rows
-          c.before.before.before.before.before.before.before.args.words.now)
-          c.before.before.before.before.before.before.before.args.a
-          c.before.before.before.before.before.before.before.args.b) _ c.before.before.before.loop.invariant.2
-          (sym c.before.in_both.ensures ∙ c.if2.false),
+          (view c.args.rows
+          c.args.words.now)
+          c.args.a
+          c.args.b) _ c.loop-s.invariant.2
+          (sym c.in_both.ensures ∙ c.if-in_both.false),
     ))
     (λ c. search-none
-    (in_both (view c.before.before.before.before.before.args.rows c.before.before.before.before.before.args.words.now)
-    c.before.before.before.before.before.args.a c.before.before.before.before.before.args.b) _
-    c.before.loop.invariant.0 c.loop-test.false c.before.loop.invariant.2))
+    (in_both (view c.args.rows c.args.words.now)
+    c.args.a c.args.b) _
+    c.loop-s.invariant.0 c.loop-s-test.false c.loop-s.invariant.2))

@@ -11,10 +11,10 @@ use Rattle.seek.proofs.least_next.Reads as reads
 use Rattle.seek.proofs.least_next.Lts as lts
 use Rattle.seek.proofs.next_in.Reads as next-in-reads
 
-abbrev invariant_loop : tie.invariant_loop
+abbrev invariant_loop : tie.invariant-loop-t
 invariant_loop words rows n r s b states t₀ t = (states ≡ 2 ^ n) × (t ≤ states) × NoneBelow (next_in (view rows words) r s b) t
 
-abbrev decreases_loop : tie.decreases_loop
+abbrev decreases_loop : tie.decreases-loop-t
 decreases_loop words rows n r s b states t₀ t = states - t
 
 pub least_next_spec : {M : Type 1} → statement M
@@ -25,31 +25,31 @@ least_next_spec =
     decreases_loop
     (λ c. search rules)
     (λ c. (
-      power_fits c.before.args.n c.before.requires.2,
+      power_fits c.args.n c.requires.2,
       omega arith,
       none-start
-          (next_in (view c.before.args.rows c.before.args.words.now) c.before.args.r c.before.args.s
-          c.before.args.b),
+          (next_in (view c.args.rows c.args.words.now) c.args.r c.args.s
+          c.args.b),
     ))
-    (λ c κs. (c.before.before.before.requires.0, c.before.before.before.requires.1))
-    (λ c. search-found {k = 2 ^ c.before.before.before.before.before.args.n}
-    (next_in (view c.before.before.before.before.before.args.rows c.before.before.before.before.before.args.words.now)
-    c.before.before.before.before.before.args.r c.before.before.before.before.before.args.s
-    c.before.before.before.before.before.args.b) _ (omega arith) c.before.before.before.loop.invariant.2
-    (sym c.before.next_in_lem.ensures ∙ c.if1.true))
+    (λ c κs. (c.requires.0, c.requires.1))
+    (λ c. search-found {k = 2 ^ c.args.n}
+    (next_in (view c.args.rows c.args.words.now)
+    c.args.r c.args.s
+    c.args.b) _ (omega arith) c.loop-t.invariant.2
+    (sym c.next_in.ensures ∙ c.if-next_in.true))
     (λ c. search rules)
     (λ c. search rules)
     (λ c. (
-      c.before.before.before.loop.invariant.0,
+      c.loop-t.invariant.0,
       omega arith,
       none-next
           (next_in
-          (view c.before.before.before.before.before.args.rows c.before.before.before.before.before.args.words.now)
-          c.before.before.before.before.before.args.r c.before.before.before.before.before.args.s
-          c.before.before.before.before.before.args.b) _ c.before.before.before.loop.invariant.2
-          (sym c.before.next_in_lem.ensures ∙ c.if1.false),
+          (view c.args.rows c.args.words.now)
+          c.args.r c.args.s
+          c.args.b) _ c.loop-t.invariant.2
+          (sym c.next_in.ensures ∙ c.if-next_in.false),
     ))
     (λ c. search-none
-    (next_in (view c.before.before.before.args.rows c.before.before.before.args.words.now)
-    c.before.before.before.args.r c.before.before.before.args.s c.before.before.before.args.b) _
-    c.before.loop.invariant.0 c.loop-test.false c.before.loop.invariant.2))
+    (next_in (view c.args.rows c.args.words.now)
+    c.args.r c.args.s c.args.b) _
+    c.loop-t.invariant.0 c.loop-t-test.false c.loop-t.invariant.2))

@@ -12,7 +12,7 @@ level_bit_spec =
     tie.close
     (tie.spec (λ c κs. search rules)
     (λ c. c.bit.ensures
-    ∙ even-level c.before.before.args.s c.before.before.args.t c.before.before.args.l c.before.if1.true)
+    ∙ even-level c.args.s c.args.t c.args.l c.if-l-eq0.true)
     (λ c κs. search rules)
-    (λ c. c.bit2.ensures
-    ∙ odd-level c.before.before.args.s c.before.before.args.t c.before.before.args.l c.before.if1.false))
+    (λ c. c.bit-2.ensures
+    ∙ odd-level c.args.s c.args.t c.args.l c.if-l-eq0.false))

@@ -18,12 +18,12 @@ level_of_spec =
     tie.close
     (tie.spec
     (λ c κs. search rules)
-    (λ c κs. sym c.before.is_row_lem.ensures ∙ c.if1.true)
-    (λ c κs. let w = walk-row (view c.before.before.before.before.args.rows c.before.before.before.before.args.words.now) _
-    c.before.before.before.before.requires (sym c.before.before.is_row_lem.ensures ∙ c.before.if1.true) c.row_of.ensures in
-    let b = c.before.before.before.before.requires.mark.base in omega arith)
+    (λ c κs. sym c.is_row.ensures ∙ c.if-is_row.true)
+    (λ c κs. let w = walk-row (view c.args.rows c.args.words.now) _
+    c.requires (sym c.is_row.ensures ∙ c.if-is_row.true) c.row_of.ensures in
+    let b = c.requires.mark.base in omega arith)
     (λ c. level-is
-    (view c.before.before.before.before.before.args.rows c.before.before.before.before.before.args.words.now) _
-    (sym c.before.before.before.is_row_lem.ensures ∙ c.before.before.if1.true) c.before.row_of.ensures c.get.ensures)
-    (λ c. level-beyond (view c.before.before.before.args.rows c.before.before.before.args.words.now) _
-    (sym c.before.is_row_lem.ensures ∙ c.if1.false)))
+    (view c.args.rows c.args.words.now) _
+    (sym c.is_row.ensures ∙ c.if-is_row.true) c.row_of.ensures c.get.ensures)
+    (λ c. level-beyond (view c.args.rows c.args.words.now) _
+    (sym c.is_row.ensures ∙ c.if-is_row.false)))

@@ -14,23 +14,23 @@ next_in_spec =
     tie.close
     (tie.spec (λ c κs. search rules)
     (λ c. both-no
-    (holds_at (view c.before.before.before.args.rows c.before.before.before.args.words.now)
-    c.before.before.before.args.b c.before.before.before.args.t 0)
-    (holds_at (view c.before.before.before.args.rows c.before.before.before.args.words.now)
-    c.before.before.before.args.r c.before.before.before.args.s c.before.before.before.args.t) c.if1.true
-    c.before.holds.ensures
-    ∙ swap (holds_at (view c.before.before.before.args.rows c.before.before.before.args.words.now)
-    c.before.before.before.args.b c.before.before.before.args.t 0)
-    (holds_at (view c.before.before.before.args.rows c.before.before.before.args.words.now)
-    c.before.before.before.args.r c.before.before.before.args.s c.before.before.before.args.t)) (λ c κs. search rules)
+    (holds_at (view c.args.rows c.args.words.now)
+    c.args.b c.args.t 0)
+    (holds_at (view c.args.rows c.args.words.now)
+    c.args.r c.args.s c.args.t) c.if-not-holds.true-raw
+    c.holds.ensures
+    ∙ swap (holds_at (view c.args.rows c.args.words.now)
+    c.args.b c.args.t 0)
+    (holds_at (view c.args.rows c.args.words.now)
+    c.args.r c.args.s c.args.t)) (λ c κs. search rules)
     (λ c. both_yes
-    (holds_at (view c.before.before.before.before.args.rows c.before.before.before.before.args.words.now)
-    c.before.before.before.before.args.b c.before.before.before.before.args.t 0)
-    (holds_at (view c.before.before.before.before.args.rows c.before.before.before.before.args.words.now)
-    c.before.before.before.before.args.r c.before.before.before.before.args.s c.before.before.before.before.args.t)
-    c.before.if1.false c.before.before.holds.ensures c.holds2.ensures
-    ∙ swap (holds_at (view c.before.before.before.before.args.rows c.before.before.before.before.args.words.now)
-    c.before.before.before.before.args.b c.before.before.before.before.args.t 0)
-    (holds_at (view c.before.before.before.before.args.rows c.before.before.before.before.args.words.now)
-    c.before.before.before.before.args.r c.before.before.before.before.args.s
-    c.before.before.before.before.args.t)))
+    (holds_at (view c.args.rows c.args.words.now)
+    c.args.b c.args.t 0)
+    (holds_at (view c.args.rows c.args.words.now)
+    c.args.r c.args.s c.args.t)
+    c.if-not-holds.false-raw c.holds.ensures c.holds-2.ensures
+    ∙ swap (holds_at (view c.args.rows c.args.words.now)
+    c.args.b c.args.t 0)
+    (holds_at (view c.args.rows c.args.words.now)
+    c.args.r c.args.s
+    c.args.t)))

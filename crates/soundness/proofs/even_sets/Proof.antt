@@ -14,18 +14,18 @@ even_sets_spec =
     tie.close
     (tie.spec
     (λ c. search rules)
-    (λ c κs. c.before.before.requires.1)
+    (λ c κs. c.requires.1)
     (λ c. search rules)
-    (λ c κs. let p = c.before.before.before.before.before.requires.1.base in
-    let e = c.before.before.mark-refs.auto.1.1.0 in
-    (c.before.before.before.before.before.requires.0, omega arith, omega arith))
-    (λ c. let p = c.before.before.before.before.before.before.requires in
+    (λ c κs. let p = c.requires.1.base in
+    let e = c.mark_refs.auto.marks in
+    (c.requires.0, omega arith, omega arith))
+    (λ c. let p = c.requires in
     says_map
     (marked-even
-    (view c.before.before.before.before.before.before.args.rows
-    c.before.before.before.before.before.before.args.words.now) p.0 p.1.base.rows _ _ (no-marks MARK_WORDS)
-    c.before.before.before.mark-refs.ensures p.1.ref)
+    (view c.args.rows
+    c.args.words.now) p.0 p.1.base.rows _ _ (no-marks MARK_WORDS)
+    c.mark_refs.ensures p.1.ref)
     (even-marked
-    (view c.before.before.before.before.before.before.args.rows
-    c.before.before.before.before.before.before.args.words.now) p.0 p.1.base.rows _ _ (no-marks MARK_WORDS)
-    c.before.before.before.mark-refs.ensures p.1.ref) c.evens.ensures))
+    (view c.args.rows
+    c.args.words.now) p.0 p.1.base.rows _ _ (no-marks MARK_WORDS)
+    c.mark_refs.ensures p.1.ref) c.evens.ensures))

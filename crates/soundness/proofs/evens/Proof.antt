@@ -13,12 +13,12 @@ use Rattle.rows.specs.Bits.{On}
 use Rattle.soundness.proofs.evens.Statement.{statement}
 use Rattle.soundness.proofs.evens.Tie as tie
 
-abbrev invariant_loop : tie.invariant_loop
+abbrev invariant_loop : tie.invariant-loop-k
 invariant_loop words rows marks used k₀ k =
     (used ≡ header_of words USED) × (k ≤ used)
     × ((j : ℕ) → j < k → On marks (list_of rows words j) → (view rows words).cell (list_of rows words j) LEVEL % 2 ≡ 0)
 
-abbrev decreases_loop : tie.decreases_loop
+abbrev decreases_loop : tie.decreases-loop-k
 decreases_loop words rows marks used k₀ k = used - k
 
 pub evens_spec : {M : Type 1} → statement M
@@ -27,37 +27,37 @@ evens_spec =
     (tie.spec
     invariant_loop
     decreases_loop
-    (λ c κs. let p = c.before.before.requires.2 in omega arith)
-    (λ c. (c.header-word.ensures, omega arith, below_none _))
-    (λ c κs. let p = c.before.before.before.before.before.requires.0 in
-    let v = c.before.loop.invariant.0 in let t = c.loop-test.true in omega arith)
-    (λ c κs. let v = c.before.before.loop.invariant.0 in
-    let t = c.before.loop-test.true in
-    let p = c.before.before.before.before.before.before.requires.0.within c.before.before.loop.k (omega arith) in
-    let e = c.listed.ensures in let q = c.before.before.before.before.before.before.requires.1 in omega arith)
-    (λ c κs. let v = c.before.before.before.before.loop.invariant.0 in
-    let t = c.before.before.before.loop-test.true in
-    let p = c.before.before.before.before.before.before.before.before.requires.0.within
-    c.before.before.before.before.loop.k (omega arith) in
-    let e = c.before.before.listed.ensures in
-    let q = c.before.before.before.before.before.before.before.before.requires.2 in omega arith)
+    (λ c κs. let p = c.requires.2 in omega arith)
+    (λ c. (c.header_word-used.ensures, omega arith, below_none _))
+    (λ c κs. let p = c.requires.0 in
+    let v = c.loop-k.invariant.0 in let t = c.loop-k-test.true in omega arith)
+    (λ c κs. let v = c.loop-k.invariant.0 in
+    let t = c.loop-k-test.true in
+    let p = c.requires.0.within c.loop-k.k (omega arith) in
+    let e = c.listed-i.ensures in let q = c.requires.1 in omega arith)
+    (λ c κs. let v = c.loop-k.invariant.0 in
+    let t = c.loop-k-test.true in
+    let p = c.requires.0.within
+    c.loop-k.k (omega arith) in
+    let e = c.listed-i.ensures in
+    let q = c.requires.2 in omega arith)
     (λ c. fails
-    (λ q. let v = c.before.before.before.before.before.before.loop.invariant.0 in
-    let t = c.before.before.before.before.before.loop-test.true in
-    let e = c.before.before.before.before.listed.ensures in
-    let z = q c.before.before.before.before.before.before.loop.k (omega arith)
-    (rw e at (sym c.before.before.before.marked.ensures ∙ c.before.before.if1.true)) in
-    let g = rw e at c.before.get.ensures in let s = c.if2.true in omega arith))
+    (λ q. let v = c.loop-k.invariant.0 in
+    let t = c.loop-k-test.true in
+    let e = c.listed-i.ensures in
+    let z = q c.loop-k.k (omega arith)
+    (rw e at (sym c.marked.ensures ∙ c.if-marked.true)) in
+    let g = rw e at c.get.ensures in let s = c.if-get-eq1.true in omega arith))
     (λ c. omega arith)
     (λ c. omega arith)
-    (λ c. let v = c.before.before.before.before.loop.invariant in
-    let e = c.before.before.listed.ensures in
-    let m = c.before.marked.ensures in let t = c.before.before.before.loop-test.true in (
+    (λ c. let v = c.loop-k.invariant in
+    let e = c.listed-i.ensures in
+    let m = c.marked.ensures in let t = c.loop-k-test.true in (
       v.0,
       omega arith,
       ⊎_elim
           (λ w. below_more _ _ v.2 (λ _. let g = rw e at w.1.ensures in let n = w.2.left in omega arith))
           (λ w. below_more _ _ v.2 (λ o. absurd (true≢false (sym (rw (← e) at o) ∙ sym m ∙ w.left))))
-          c.if1.branch,
+          c.if-marked.branch,
     ))
-    (λ c. holds (λ k h o. let v = c.before.loop.invariant in let t = c.loop-test.false in v.2 k (omega arith) o)))
+    (λ c. holds (λ k h o. let v = c.loop-k.invariant in let t = c.loop-k-test.false in v.2 k (omega arith) o)))

@@ -13,36 +13,36 @@ pub found_row_spec : {M : Type 1} → statement M
 found_row_spec =
     tie.close
     (tie.spec
-    (λ c κs. let h = used_row (view c.before.args.rows c.before.args.words.now) _ c.before.requires.0 in
-    let r = c.before.requires.1.room in (h, r.max, r.words))
+    (λ c κs. let h = used_row (view c.args.rows c.args.words.now) _ c.requires.0 in
+    let r = c.requires.1.room in (h, r.max, r.words))
     (λ c κs. search rules)
-    (λ c. let h = used_row (view c.before.before.before.args.rows c.before.before.before.args.words.now) _
-    c.before.before.before.requires.0 in let r = c.before.before.before.requires.1.room in omega arith)
+    (λ c. let h = used_row (view c.args.rows c.args.words.now) _
+    c.requires.0 in let r = c.requires.1.room in omega arith)
     (λ c. met
-    (head_finds (view c.before.before.before.before.args.rows c.before.before.before.before.args.words.now) _
-    c.before.before.before.before.requires.0 (rw c.before.before.row-bucket.ensures.0 at c.before.head.ensures)
-    c.if1.true))
-    (λ c κs. let h = used_row (view c.before.before.before.before.args.rows c.before.before.before.before.args.words.now) _
-    c.before.before.before.before.requires.0 in
-    let r = c.before.before.before.before.requires.1.room in (h, omega arith, r.words))
+    (head_finds (view c.args.rows c.args.words.now) _
+    c.requires.0 (rw c.row_bucket-b.ensures.0 at c.head.ensures)
+    c.if-head-i.true))
+    (λ c κs. let h = used_row (view c.args.rows c.args.words.now) _
+    c.requires.0 in
+    let r = c.requires.1.room in (h, omega arith, r.words))
     (λ c κs. let h =
     used_row
-    (view c.before.before.before.before.before.args.rows c.before.before.before.before.before.args.words.now) _
-    c.before.before.before.before.before.requires.0 in
-    let r = c.before.before.before.before.before.requires.1.room in (h, omega arith, r.words))
+    (view c.args.rows c.args.words.now) _
+    c.requires.0 in
+    let r = c.requires.1.room in (h, omega arith, r.words))
     (λ c κs. let h =
     used_row
-    (view c.before.before.before.before.before.before.args.rows
-    c.before.before.before.before.before.before.args.words.now) _
-    c.before.before.before.before.before.before.requires.0 in
-    let r = c.before.before.before.before.before.before.requires.1.room in (h, omega arith, r.words))
+    (view c.args.rows
+    c.args.words.now) _
+    c.requires.0 in
+    let r = c.requires.1.room in (h, omega arith, r.words))
     (λ c κs. search rules)
-    (λ c κs. (c.before.before.before.before.before.before.before.before.requires.1, rw c.first.ensures (live_link _ _)))
+    (λ c κs. (c.requires.1, rw c.first.ensures (live_link _ _)))
     (λ c. rw (
-      c.before.first.ensures,
-      c.before.before.before.before.before.before.before.row-bucket.ensures.0,
-      c.before.before.before.before.get.ensures,
-      c.before.before.before.get2.ensures,
-      c.before.before.get3.ensures,
+      c.first.ensures,
+      c.row_bucket-b.ensures.0,
+      c.get-level.ensures,
+      c.get-low.ensures,
+      c.get-high.ensures,
     ) at
     c.hits.ensures))

@@ -12,6 +12,6 @@ high_ok_spec =
     tie.close
     (tie.spec
     (λ c κs. search rules)
-    (λ c. fails (λ q. true≢false (sym c.if1.true ∙ c.before.is-marked.ensures ∙ q.0)))
+    (λ c. fails (λ q. true≢false (sym c.if-is_marked.true ∙ c.is_marked.ensures ∙ q.0)))
     (λ c κs. search rules)
-    (λ c. says_map (λ l. (sym c.before.before.is-marked.ensures ∙ c.before.if1.false, l)) (λ q. q.1) c.lead-ok.ensures))
+    (λ c. says_map (λ l. (sym c.is_marked.ensures ∙ c.if-is_marked.false, l)) (λ q. q.1) c.lead_ok.ensures))

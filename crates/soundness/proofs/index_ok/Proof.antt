@@ -12,10 +12,10 @@ use Rattle.soundness.proofs.ChainsLaws.{both_tell}
 use Rattle.soundness.proofs.index_ok.Statement.{statement}
 use Rattle.soundness.proofs.index_ok.Tie as tie
 
-abbrev invariant_loop : tie.invariant_loop
+abbrev invariant_loop : tie.invariant-loop-k
 invariant_loop words rows used k₀ k = (k ≤ used) × ((j : ℕ) → j < k → Finds (view rows words) (list_of rows words j))
 
-abbrev decreases_loop : tie.decreases_loop
+abbrev decreases_loop : tie.decreases-loop-k
 decreases_loop words rows used k₀ k = used - k
 
 pub index_ok_spec : {M : Type 1} → statement M
@@ -25,23 +25,23 @@ index_ok_spec =
     invariant_loop
     decreases_loop
     (λ c. (omega arith, below_none _))
-    (λ c κs. let p = c.before.before.before.requires in
-    let r = p.links.room in let e = p.count in let l = p.ranked.count-le in let t = c.loop-test.true in omega arith)
-    (λ c κs. let p = c.before.before.before.before.requires in
-    let e = p.count in let t = c.before.loop-test.true in let g = c.listed.ensures in (rw g (ready-used p _ t), p.links))
-    (λ c. c.match.keys1)
-    (λ c. c.match.keys2)
+    (λ c κs. let p = c.requires in
+    let r = p.links.room in let e = p.count in let l = p.ranked.count-le in let t = c.loop-k-test.true in omega arith)
+    (λ c κs. let p = c.requires in
+    let e = p.count in let t = c.loop-k-test.true in let g = c.listed.ensures in (rw g (ready-used p _ t), p.links))
+    (λ c. c.in-Met-1.keys1)
+    (λ c. c.in-Missed-1.keys2)
     (λ c. fails
-    (λ q. walk-missed c.enum-told2.given.1 c.before.before.found_row.ensures
-    (rw c.before.before.before.listed.ensures (q _ c.before.before.before.before.loop-test.true))))
-    (λ c. c.match.keys3)
-    (λ c κs. c.before.before.before.before.before.before.before.requires)
-    (λ c. both_tell c.before.before.before.before.before.before.before.before.requires c.part-ok.ensures)
-    (λ c. let t = c.before.before.before.before.loop-test.true in omega arith)
-    (λ c. let t = c.before.before.before.before.loop-test.true in omega arith)
-    (λ c. let t = c.before.before.before.before.loop-test.true in (
+    (λ q. walk-missed c.in-Missed.is c.found_row-walk.ensures
+    (rw c.listed.ensures (q _ c.loop-k-test.true))))
+    (λ c. c.in-Long-1.keys3)
+    (λ c κs. c.requires)
+    (λ c. both_tell c.requires c.part_ok.ensures)
+    (λ c. let t = c.loop-k-test.true in omega arith)
+    (λ c. let t = c.loop-k-test.true in omega arith)
+    (λ c. let t = c.loop-k-test.true in (
       omega arith,
-      below_more _ _ c.before.before.before.before.before.loop.invariant.1
-          (rw c.before.before.before.listed.ensures at (walk-met c.enum_told.given.1 c.before.before.found_row.ensures)),
+      below_more _ _ c.loop-k.invariant.1
+          (rw c.listed.ensures at (walk-met c.in-Met.is c.found_row-walk.ensures)),
     ))
-    (λ c. holds (λ k h. let t = c.loop-test.false in c.before.loop.invariant.1 k (omega arith))))
+    (λ c. holds (λ k h. let t = c.loop-k-test.false in c.loop-k.invariant.1 k (omega arith))))

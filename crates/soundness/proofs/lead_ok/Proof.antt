@@ -14,27 +14,27 @@ lead_ok_spec =
     tie.close
     (tie.spec
     (λ c κs. search rules)
-    (λ c. holds (leads_constant _ _ _ (test_no c.before.is_row_lem.ensures c.if1.true)))
-    (λ c κs. test_yes c.before.is_row_lem.ensures c.if1.false)
+    (λ c. holds (leads_constant _ _ _ (test_no c.is_row.ensures c.if-not-is_row.true-raw)))
+    (λ c κs. test_yes c.is_row.ensures c.if-not-is_row.false-raw)
     (λ c κs. search rules)
     (λ c. fails
-    (λ q. says_fail c.if2.true (says_is c.before.used_row.ensures)
-    (of_leads _ _ _ (test_yes c.before.before.before.before.is_row_lem.ensures c.before.before.before.if1.false)
-    c.before.before.row_of.ensures q).0))
+    (λ q. says_fail c.if-not-used_row.true-raw (says_is c.used_row.ensures)
+    (of_leads _ _ _ (test_yes c.is_row.ensures c.if-not-is_row.false-raw)
+    c.row_of-i.ensures q).0))
     (λ c κs. let u =
     used_row
-    (view c.before.before.before.before.before.before.args.rows
-    c.before.before.before.before.before.before.args.words.now) _
-    (says_pass c.if2.false (says_is c.before.used_row.ensures)) in
-    let r = c.before.before.before.before.before.before.requires in omega arith)
+    (view c.args.rows
+    c.args.words.now) _
+    (says_pass c.if-not-used_row.false-raw (says_is c.used_row.ensures)) in
+    let r = c.requires in omega arith)
     (λ c. fails
     (λ q. let z = of_leads _ _ _
-    (test_yes c.before.before.before.before.before.before.is_row_lem.ensures
-    c.before.before.before.before.before.if1.false) c.before.before.before.before.row_of.ensures q in
-    let e = c.before.get.ensures in let t = c.if3.true in omega arith))
-    (λ c. let e = c.before.get.ensures in
-    let t = c.if3.false in
+    (test_yes c.is_row.ensures
+    c.if-not-is_row.false-raw) c.row_of-i.ensures q in
+    let e = c.get.ensures in let t = c.if-get-above.true in omega arith))
+    (λ c. let e = c.get.ensures in
+    let t = c.if-get-above.false in
     holds (leads_of _ _ _
-    (test_yes c.before.before.before.before.before.before.is_row_lem.ensures
-    c.before.before.before.before.before.if1.false) c.before.before.before.before.row_of.ensures
-    (says_pass c.before.before.if2.false (says_is c.before.before.before.used_row.ensures), omega arith))))
+    (test_yes c.is_row.ensures
+    c.if-not-is_row.false-raw) c.row_of-i.ensures
+    (says_pass c.if-not-used_row.false-raw (says_is c.used_row.ensures), omega arith))))

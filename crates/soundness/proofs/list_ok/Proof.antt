@@ -10,10 +10,10 @@ use Rattle.soundness.specs.Checks.{Placed}
 use Rattle.soundness.proofs.list_ok.Statement.{statement}
 use Rattle.soundness.proofs.list_ok.Tie as tie
 
-abbrev invariant_loop : tie.invariant_loop
+abbrev invariant_loop : tie.invariant-loop-k
 invariant_loop words rows used k₀ k = (k ≤ used) × ((j : ℕ) → j < k → Placed (view rows words) j)
 
-abbrev decreases_loop : tie.decreases_loop
+abbrev decreases_loop : tie.decreases-loop-k
 decreases_loop words rows used k₀ k = used - k
 
 pub list_ok_spec : {M : Type 1} → statement M
@@ -23,22 +23,22 @@ list_ok_spec =
     invariant_loop
     decreases_loop
     (λ c. (omega arith, below_none _))
-    (λ c κs. let l = c.loop-test.true in let p = c.before.before.before.requires in omega arith)
+    (λ c κs. let l = c.loop-k-test.true in let p = c.requires in omega arith)
     (λ c. fails
-    (λ q. let z = (q _ c.before.before.loop-test.true).0 in
-    let e = c.before.listed.ensures in let t = c.if1.true in omega arith))
-    (λ c κs. let l = c.if1.false in let p = c.before.before.before.before.before.requires in omega arith)
+    (λ q. let z = (q _ c.loop-k-test.true).0 in
+    let e = c.listed-i.ensures in let t = c.if-i-rows.true in omega arith))
+    (λ c κs. let l = c.if-i-rows.false in let p = c.requires in omega arith)
     (λ c. fails
-    (λ q. c.if2.true
-    (c.before.get.ensures
-    ∙ rw c.before.before.before.listed.ensures (q _ c.before.before.before.before.loop-test.true).1)))
+    (λ q. c.if-get-k.true
+    (c.get.ensures
+    ∙ rw c.listed-i.ensures (q _ c.loop-k-test.true).1)))
     (λ c. omega arith)
     (λ c. omega arith)
-    (λ c. let l = c.before.before.before.before.loop-test.true in
-    let t = c.before.before.if1.false in
-    let e = c.before.before.before.listed.ensures in (
+    (λ c. let l = c.loop-k-test.true in
+    let t = c.if-i-rows.false in
+    let e = c.listed-i.ensures in (
       omega arith,
-      below_more _ _ c.before.before.before.before.before.loop.invariant.1
-          (omega arith, rw (← e) (sym c.before.get.ensures ∙ c.if2.false)),
+      below_more _ _ c.loop-k.invariant.1
+          (omega arith, rw (← e) (sym c.get.ensures ∙ c.if-get-k.false)),
     ))
-    (λ c. holds (λ k h. let l = c.loop-test.false in c.before.loop.invariant.1 k (omega arith))))
+    (λ c. holds (λ k h. let l = c.loop-k-test.false in c.loop-k.invariant.1 k (omega arith))))

@@ -10,12 +10,12 @@ use Rattle.soundness.proofs.ref_ok.Tie as tie
 pub ref_ok_spec : {M : Type 1} → statement M
 ref_ok_spec =
     tie.close
-    (tie.spec (λ c. holds (ref-empty _ _ c.if1.true)) (λ c. search rules) (λ c κs. search rules)
+    (tie.spec (λ c. holds (ref-empty _ _ c.if-r-eq0.true)) (λ c. search rules) (λ c κs. search rules)
     (λ c. holds
-    (arrow-ref _ _ c.before.before.if1.false (arrow_constant _ _ (test_no c.before.is_row_lem.ensures c.if2.true))))
-    (λ c κs. test_yes c.before.is_row_lem.ensures c.if2.false) (λ c κs. search rules)
+    (arrow-ref _ _ c.if-r-eq0.false (arrow_constant _ _ (test_no c.is_row.ensures c.if-not-is_row.true-raw))))
+    (λ c κs. test_yes c.is_row.ensures c.if-not-is_row.false-raw) (λ c κs. search rules)
     (λ c. says_map
-    (λ u. arrow-ref _ _ c.before.before.before.before.if1.false
-    (arrow_of _ _ (test_yes c.before.before.before.is_row_lem.ensures c.before.before.if2.false) c.before.row_of.ensures
-    u)) (λ q. of_arrow _ _ (test_yes c.before.before.before.is_row_lem.ensures c.before.before.if2.false)
-    c.before.row_of.ensures (ref-arrow _ _ c.before.before.before.before.if1.false q)) (says_is c.used_row.ensures)))
+    (λ u. arrow-ref _ _ c.if-r-eq0.false
+    (arrow_of _ _ (test_yes c.is_row.ensures c.if-not-is_row.false-raw) c.row_of.ensures
+    u)) (λ q. of_arrow _ _ (test_yes c.is_row.ensures c.if-not-is_row.false-raw)
+    c.row_of.ensures (ref-arrow _ _ c.if-r-eq0.false q)) (says_is c.used_row.ensures)))

@@ -10,10 +10,10 @@ use Rattle.rows.specs.Roots.{Ref}
 use Rattle.soundness.proofs.refs_ok.Statement.{statement}
 use Rattle.soundness.proofs.refs_ok.Tie as tie
 
-abbrev invariant_loop : tie.invariant_loop
+abbrev invariant_loop : tie.invariant-loop-k
 invariant_loop words rows from to k₀ k = (from ≤ k) × ((h : ℕ) → h < k → from ≤ h → Ref (rows_of (view rows words)) (header_of words h))
 
-abbrev decreases_loop : tie.decreases_loop
+abbrev decreases_loop : tie.decreases-loop-k
 decreases_loop words rows from to k₀ k = to - k
 
 pub refs_ok_spec : {M : Type 1} → statement M
@@ -23,17 +23,17 @@ refs_ok_spec =
     invariant_loop
     decreases_loop
     (λ c. (omega arith, λ h a b. absurd (omega arith)))
-    (λ c κs. let r = c.before.before.before.requires.1 in let l = c.loop-test.true in omega arith)
-    (λ c κs. c.before.before.before.before.requires.1)
+    (λ c κs. let r = c.requires.1 in let l = c.loop-k-test.true in omega arith)
+    (λ c κs. c.requires.1)
     (λ c. fails
-    (λ q. says_fail c.if1.true c.before.ref-ok.ensures
-    (rw c.before.before.header-word.ensures
-    (q _ c.before.before.before.before.loop.invariant.0 c.before.before.before.loop-test.true))))
+    (λ q. says_fail c.if-not-ref_ok.true-raw c.ref_ok.ensures
+    (rw c.header_word.ensures
+    (q _ c.loop-k.invariant.0 c.loop-k-test.true))))
     (λ c. omega arith)
     (λ c. omega arith)
     (λ c. (
       omega arith,
-      below_more _ _ c.before.before.before.before.loop.invariant.1
-          (λ _. rw c.before.before.header-word.ensures at (says_pass c.if1.false c.before.ref-ok.ensures)),
+      below_more _ _ c.loop-k.invariant.1
+          (λ _. rw c.header_word.ensures at (says_pass c.if-not-ref_ok.false-raw c.ref_ok.ensures)),
     ))
-    (λ c. holds (λ h a l. let t = c.loop-test.false in c.before.loop.invariant.1 h (omega arith) a)))
+    (λ c. holds (λ h a l. let t = c.loop-k-test.false in c.loop-k.invariant.1 h (omega arith) a)))

@@ -17,37 +17,37 @@ roots_ok_spec =
     (tie.spec
     (λ c κs. (
       omega arith,
-      let g = c.before.requires in
-          room_of (view c.before.args.rows c.before.args.words.now) g.sizes g.ranked.count-le,
+      let g = c.requires in
+          room_of (view c.args.rows c.args.words.now) g.sizes g.ranked.count-le,
     ))
-    (λ c. fails (λ q. says_fail c.if1.true c.before.refs-ok.ensures q.refs))
-    (λ c κs. let g = c.before.before.before.requires.sizes.room in omega arith)
-    (λ c. fails (λ q. q.valid (sym c.before.header-word.ensures ∙ c.if2.true)))
-    (λ c κs. let g = c.before.before.before.before.before.requires in (
+    (λ c. fails (λ q. says_fail c.if-not-refs_ok.true-raw c.refs_ok.ensures q.refs))
+    (λ c κs. let g = c.requires.sizes.room in omega arith)
+    (λ c. fails (λ q. q.valid (sym c.header_word-valid.ensures ∙ c.if-valid-eq0.true)))
+    (λ c κs. let g = c.requires in (
       g.ranked,
       record {
         base = record { words = g.sizes.room; rows = g.rows; room = g.sizes.N-max };
         order = omega arith;
         within = omega arith;
-        ref = λ h a l. says_pass c.before.before.if1.false c.before.before.before.refs-ok.ensures h a (omega arith);
+        ref = λ h a l. says_pass c.if-not-refs_ok.false-raw c.refs_ok.ensures h a (omega arith);
       },
     ))
-    (λ c. fails (λ q. says_fail c.if3.true c.before.even-sets.ensures q.even))
+    (λ c. fails (λ q. says_fail c.if-not-even_sets.true-raw c.even_sets.ensures q.even))
     (λ c. search rules)
-    (λ c κs. let u = says_pass c.before.before.before.before.if1.false
-    c.before.before.before.before.before.refs-ok.ensures in
-    let e = says_pass c.if3.false c.before.even-sets.ensures in record {
-      good = c.before.before.before.before.before.before.before.requires;
+    (λ c κs. let u = says_pass c.if-not-refs_ok.false-raw
+    c.refs_ok.ensures in
+    let e = says_pass c.if-not-even_sets.false-raw c.even_sets.ensures in record {
+      good = c.requires;
       against =
-          rw c.before.before.before.header-word.ensures
+          rw c.header_word-valid.ensures
           (against-root
-          (view c.before.before.before.before.before.before.before.args.rows
-          c.before.before.before.before.before.before.before.args.words.now)
-          (rw c.before.before.before.header-word.ensures at c.before.before.if2.false) u e);
+          (view c.args.rows
+          c.args.words.now)
+          (rw c.header_word-valid.ensures at c.if-valid-eq0.false) u e);
       refs = λ h lo hi. u h (omega arith) hi;
     })
-    (λ c. within-tells c.before.before.before.before.before.before.before.before.requires
-    (says_pass c.before.before.before.before.before.if1.false
-    c.before.before.before.before.before.before.refs-ok.ensures) c.before.before.before.before.header-word.ensures
-    c.before.before.before.if2.false (says_pass c.before.if3.false c.before.before.even-sets.ensures)
-    c.all-within.ensures))
+    (λ c. within-tells c.requires
+    (says_pass c.if-not-refs_ok.false-raw
+    c.refs_ok.ensures) c.header_word-valid.ensures
+    c.if-valid-eq0.false (says_pass c.if-not-even_sets.false-raw c.even_sets.ensures)
+    c.all_within.ensures))

@@ -12,38 +12,38 @@ row_ok_spec =
     tie.close
     (tie.spec
     (λ c κs. search rules)
-    (λ c. fails (λ q. let l = q.level in let e = c.before.get.ensures in let t = c.if1.true in omega arith))
+    (λ c. fails (λ q. let l = q.level in let e = c.get-level.ensures in let t = c.if-level-levels.true in omega arith))
     (λ c κs. search rules)
     (λ c κs. search rules)
-    (λ c. fails (λ q. q.differ (sym c.before.before.get2.ensures ∙ c.if2.true ∙ c.before.get3.ensures)))
-    (λ c κs. search rules)
-    (λ c. fails
-    (λ q. says_fail c.if3.true c.before.lead-ok.ensures
-    (rw (c.before.before.before.before.before.before.get.ensures, c.before.before.before.before.get2.ensures) q.low)))
+    (λ c. fails (λ q. q.differ (sym c.get-low.ensures ∙ c.if-low-high.true ∙ c.get-high.ensures)))
     (λ c κs. search rules)
     (λ c. fails
-    (λ q. says_fail c.if4.true c.before.high-ok.ensures
+    (λ q. says_fail c.if-not-lead_ok.true-raw c.lead_ok.ensures
+    (rw (c.get-level.ensures, c.get-low.ensures) q.low)))
+    (λ c κs. search rules)
+    (λ c. fails
+    (λ q. says_fail c.if-not-high_ok.true-raw c.high_ok.ensures
     (rw (
-      c.before.before.before.before.before.before.before.before.get.ensures,
-      c.before.before.before.before.before.get3.ensures,
+      c.get-level.ensures,
+      c.get-high.ensures,
     ) (q.plain, q.high))))
     (λ c κs. search rules)
     (λ c κs. search rules)
     (λ c κs. search rules)
-    (λ c. let e = c.before.before.before.before.before.before.before.before.before.before.before.get.ensures in
-    let e₂ = c.before.before.before.before.before.before.before.before.before.get2.ensures in
-    let e₃ = c.before.before.before.before.before.before.before.before.get3.ensures in
-    let t = c.before.before.before.before.before.before.before.before.before.before.if1.false in
+    (λ c. let e = c.get-level.ensures in
+    let e₂ = c.get-low.ensures in
+    let e₃ = c.get-high.ensures in
+    let t = c.if-level-levels.false in
     says_map
     (λ l. record {
       level = omega arith;
-      differ = λ z. c.before.before.before.before.before.before.before.if2.false (e₂ ∙ z ∙ sym e₃);
+      differ = λ z. c.if-low-high.false (e₂ ∙ z ∙ sym e₃);
       low = rw (e, e₂) at
-          (says_pass c.before.before.before.before.before.if3.false
-          c.before.before.before.before.before.before.lead-ok.ensures);
-      high = rw (e, e₃) at (says_pass c.before.before.before.if4.false c.before.before.before.before.high-ok.ensures).1;
-      plain = rw e₃ at (says_pass c.before.before.before.if4.false c.before.before.before.before.high-ok.ensures).0;
-      next = rw (c.before.before.get4.ensures, c.before.get5.ensures) at l;
+          (says_pass c.if-not-lead_ok.false-raw
+          c.lead_ok.ensures);
+      high = rw (e, e₃) at (says_pass c.if-not-high_ok.false-raw c.high_ok.ensures).1;
+      plain = rw e₃ at (says_pass c.if-not-high_ok.false-raw c.high_ok.ensures).0;
+      next = rw (c.get.ensures, c.get-2.ensures) at l;
     })
-    (λ q. rw (c.before.before.get4.ensures, c.before.get5.ensures) q.next)
-    c.link-ok.ensures))
+    (λ q. rw (c.get.ensures, c.get-2.ensures) q.next)
+    c.link_ok.ensures))

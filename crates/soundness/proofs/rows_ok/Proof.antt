@@ -10,10 +10,10 @@ use Rattle.soundness.specs.Checks.{RowGood}
 use Rattle.soundness.proofs.rows_ok.Statement.{statement}
 use Rattle.soundness.proofs.rows_ok.Tie as tie
 
-abbrev invariant_loop : tie.invariant_loop
+abbrev invariant_loop : tie.invariant-loop-k
 invariant_loop words rows used levels k₀ k = (k ≤ used) × ((j : ℕ) → j < k → RowGood (view rows words) levels (list_of rows words j))
 
-abbrev decreases_loop : tie.decreases_loop
+abbrev decreases_loop : tie.decreases-loop-k
 decreases_loop words rows used levels k₀ k = used - k
 
 pub rows_ok_spec : {M : Type 1} → statement M
@@ -23,17 +23,17 @@ rows_ok_spec =
     invariant_loop
     decreases_loop
     (λ c. (omega arith, below_none _))
-    (λ c κs. let l = c.loop-test.true in let p = c.before.before.before.requires in omega arith)
-    (λ c κs. let z = (c.before.before.before.before.requires.2 _ c.before.loop-test.true).0 in
-    let e = c.listed.ensures in (omega arith, c.before.before.before.before.requires.1))
+    (λ c κs. let l = c.loop-k-test.true in let p = c.requires in omega arith)
+    (λ c κs. let z = (c.requires.2 _ c.loop-k-test.true).0 in
+    let e = c.listed.ensures in (omega arith, c.requires.1))
     (λ c. fails
-    (λ q. says_fail c.if1.true c.before.row_ok.ensures
-    (rw c.before.before.listed.ensures (q _ c.before.before.before.loop-test.true))))
+    (λ q. says_fail c.if-not-row_ok.true-raw c.row_ok.ensures
+    (rw c.listed.ensures (q _ c.loop-k-test.true))))
     (λ c. omega arith)
     (λ c. omega arith)
-    (λ c. let l = c.before.before.before.loop-test.true in (
+    (λ c. let l = c.loop-k-test.true in (
       omega arith,
-      below_more _ _ c.before.before.before.before.loop.invariant.1
-          (rw c.before.before.listed.ensures at (says_pass c.if1.false c.before.row_ok.ensures)),
+      below_more _ _ c.loop-k.invariant.1
+          (rw c.listed.ensures at (says_pass c.if-not-row_ok.false-raw c.row_ok.ensures)),
     ))
-    (λ c. holds (λ k h. let l = c.loop-test.false in c.before.loop.invariant.1 k (omega arith))))
+    (λ c. holds (λ k h. let l = c.loop-k-test.false in c.loop-k.invariant.1 k (omega arith))))

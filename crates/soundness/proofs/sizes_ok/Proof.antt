@@ -13,4 +13,4 @@ sizes_ok_spec =
     (λ c κs. search rules)
     (λ c κs. search rules)
     (λ c κs. search rules)
-    (λ c. rw (c.before.before.header-word.ensures, c.before.header-word2.ensures) at c.sizes-fit.ensures))
+    (λ c. rw (c.header_word.ensures, c.header_word-2.ensures) at c.sizes_fit.ensures))

@@ -13,15 +13,15 @@ sound_spec =
     tie.close
     (tie.spec
     (λ c κs. search rules)
-    (λ c. fails (λ q. says_fail c.if1.true c.before.sizes-ok.ensures q.good.sizes))
-    (λ c κs. let s = says_pass c.if1.false c.before.sizes-ok.ensures in omega arith)
-    (λ c. fails (λ q. c.if2.true (c.before.header-word.ensures ∙ q.good.layout_is)))
-    (λ c κs. let s = says_pass c.before.before.if1.false c.before.before.before.sizes-ok.ensures in omega arith)
-    (λ c κs. let s = says_pass c.before.before.before.if1.false c.before.before.before.before.sizes-ok.ensures in (
-      rw c.header-word2.ensures s,
-      sym c.header-word2.ensures,
-      sym c.before.before.header-word.ensures ∙ c.before.if2.false,
+    (λ c. fails (λ q. says_fail c.if-not-sizes_ok.true-raw c.sizes_ok.ensures q.good.sizes))
+    (λ c κs. let s = says_pass c.if-not-sizes_ok.false-raw c.sizes_ok.ensures in omega arith)
+    (λ c. fails (λ q. c.if-header_word-ne-CURRENT.true (c.header_word.ensures ∙ q.good.layout_is)))
+    (λ c κs. let s = says_pass c.if-not-sizes_ok.false-raw c.sizes_ok.ensures in omega arith)
+    (λ c κs. let s = says_pass c.if-not-sizes_ok.false-raw c.sizes_ok.ensures in (
+      rw c.header_word-rows.ensures s,
+      sym c.header_word-rows.ensures,
+      sym c.header_word.ensures ∙ c.if-header_word-ne-CURRENT.false,
     ))
-    (λ c. fails (λ q. says_fail c.if3.true c.before.table-ok.ensures (rw c.before.before.header-word2.ensures q.good)))
-    (λ c κs. says_pass c.if3.false c.before.table-ok.ensures)
-    (λ c. rw c.before.before.before.header-word2.ensures at c.roots-ok.ensures))
+    (λ c. fails (λ q. says_fail c.if-not-table_ok.true-raw c.table_ok.ensures (rw c.header_word-rows.ensures q.good)))
+    (λ c κs. says_pass c.if-not-table_ok.false-raw c.table_ok.ensures)
+    (λ c. rw c.header_word-rows.ensures at c.roots_ok.ensures))

@@ -12,49 +12,49 @@ pub table_ok_spec : {M : Type 1} → statement M
 table_ok_spec =
     tie.close
     (tie.spec
-    (λ c κs. let z = c.before.requires.0 in omega arith)
-    (λ c. fails (λ q. let l = q.ranked.count-le in let e = c.before.header-word.ensures in let t = c.if1.true in omega arith))
-    (λ c κs. let z = c.before.before.before.requires.0 in omega arith)
-    (λ c κs. let z = c.before.before.before.before.requires.0 in let t = c.before.if1.false in omega arith)
+    (λ c κs. let z = c.requires.0 in omega arith)
+    (λ c. fails (λ q. let l = q.ranked.count-le in let e = c.header_word-used.ensures in let t = c.if-used-rows.true in omega arith))
+    (λ c κs. let z = c.requires.0 in omega arith)
+    (λ c κs. let z = c.requires.0 in let t = c.if-used-rows.false in omega arith)
     (λ c. fails
-    (λ q. let e = c.before.before.before.before.header-word.ensures in
-    says_fail c.if2.true c.before.list-ok.ensures
+    (λ q. let e = c.header_word-used.ensures in
+    says_fail c.if-not-list_ok.true-raw c.list_ok.ensures
     (λ k h. (of_good
-    (view c.before.before.before.before.before.before.args.rows
-    c.before.before.before.before.before.before.args.words.now) q).list k (omega arith))))
-    (λ c. let z = c.before.before.before.before.before.before.requires.0 in
-    let e = c.before.before.header-word2.ensures in omega arith)
+    (view c.args.rows
+    c.args.words.now) q).list k (omega arith))))
+    (λ c. let z = c.requires.0 in
+    let e = c.header_word-bits.ensures in omega arith)
     (λ c κs. (
-      c.before.before.before.if1.false,
+      c.if-used-rows.false,
       room_of
-          (view c.before.before.before.before.before.before.args.rows
-          c.before.before.before.before.before.before.args.words.now) c.before.before.before.before.before.before.requires.0
-          (let e = c.before.before.before.before.header-word.ensures in let t = c.before.before.before.if1.false in omega arith),
-      says_pass c.if2.false c.before.list-ok.ensures,
+          (view c.args.rows
+          c.args.words.now) c.requires.0
+          (let e = c.header_word-used.ensures in let t = c.if-used-rows.false in omega arith),
+      says_pass c.if-not-list_ok.false-raw c.list_ok.ensures,
     ))
     (λ c. fails
-    (λ q. let e = c.before.before.before.before.before.before.header-word.ensures in
-    says_fail c.if3.true c.before.rows_ok.ensures
-    (λ k h. rw c.before.before.before.before.header-word2.ensures
+    (λ q. let e = c.header_word-used.ensures in
+    says_fail c.if-not-rows_ok.true-raw c.rows_ok.ensures
+    (λ k h. rw c.header_word-bits.ensures
     ((of_good
-    (view c.before.before.before.before.before.before.before.before.args.rows
-    c.before.before.before.before.before.before.before.before.args.words.now) q).rows k (omega arith)))))
+    (view c.args.rows
+    c.args.words.now) q).rows k (omega arith)))))
     (λ c κs. ready_of
-    (view c.before.before.before.before.before.before.before.before.args.rows
-    c.before.before.before.before.before.before.before.before.args.words.now)
-    c.before.before.before.before.before.before.before.before.requires.0
-    c.before.before.before.before.before.before.header-word.ensures c.before.before.before.before.before.if1.false
-    (says_pass c.before.before.if2.false c.before.before.before.list-ok.ensures)
-    (λ k h. rw c.before.before.before.before.header-word2.ensures at
-    (says_pass c.if3.false c.before.rows_ok.ensures k h)))
+    (view c.args.rows
+    c.args.words.now)
+    c.requires.0
+    c.header_word-used.ensures c.if-used-rows.false
+    (says_pass c.if-not-list_ok.false-raw c.list_ok.ensures)
+    (λ k h. rw c.header_word-bits.ensures at
+    (says_pass c.if-not-rows_ok.false-raw c.rows_ok.ensures k h)))
     (λ c. index-tells
-    (view c.before.before.before.before.before.before.before.before.before.args.rows
-    c.before.before.before.before.before.before.before.before.before.args.words.now)
-    c.before.before.before.before.before.before.before.before.before.requires.0
-    c.before.before.before.before.before.before.before.before.before.requires.1
-    c.before.before.before.before.before.before.before.before.before.requires.2
-    c.before.before.before.before.before.before.before.header-word.ensures
-    c.before.before.before.before.before.before.if1.false
-    (says_pass c.before.before.before.if2.false c.before.before.before.before.list-ok.ensures)
-    (λ k h. rw c.before.before.before.before.before.header-word2.ensures at
-    (says_pass c.before.if3.false c.before.before.rows_ok.ensures k h)) c.index_ok.ensures))
+    (view c.args.rows
+    c.args.words.now)
+    c.requires.0
+    c.requires.1
+    c.requires.2
+    c.header_word-used.ensures
+    c.if-used-rows.false
+    (says_pass c.if-not-list_ok.false-raw c.list_ok.ensures)
+    (λ k h. rw c.header_word-bits.ensures at
+    (says_pass c.if-not-rows_ok.false-raw c.rows_ok.ensures k h)) c.index_ok.ensures))

@@ -62,23 +62,23 @@ pub +mark_added_part_mark_added_row_spec : {M : Type 1} → statement M
     (mark_added_part-at t)
     mark-added-part.Post
     (λ c κs. search rules)
-    (λ c. added_constant _ _ _ _ (test_no c.before.is_row_lem.ensures c.if1.true))
-    (λ c κs. (test_yes c.before.before.is_row_lem.ensures c.before.if1.false))
-    (λ c κs. let l = added_in c.before.before.before.before.before.before.before.requires.1
-    (test_yes c.before.before.before.is_row_lem.ensures c.before.before.if1.false) c.row_of.ensures in
-    let z = c.before.before.before.before.before.before.before.requires.1.room in omega (arith, l, z))
+    (λ c. added_constant _ _ _ _ (test_no c.is_row.ensures c.if-not-is_row.true-raw))
+    (λ c κs. (test_yes c.is_row.ensures c.if-not-is_row.false-raw))
+    (λ c κs. let l = added_in c.requires.1
+    (test_yes c.is_row.ensures c.if-not-is_row.false-raw) c.row_of.ensures in
+    let z = c.requires.1.room in omega (arith, l, z))
     (λ c. search rules)
     (λ c. added_again _ _ _ _
-    (test_yes c.before.before.before.before.before.is_row_lem.ensures c.before.before.before.before.if1.false)
-    c.before.before.row_of.ensures (sym c.before.marked.ensures ∙ c.if2.true))
+    (test_yes c.is_row.ensures c.if-not-is_row.false-raw)
+    c.row_of.ensures (sym c.marked.ensures ∙ c.if-marked.true))
     (λ c κs. (
-      rw (← c.before.before.before.before.before.before.before.before.before.before.before.requires.0) (omega arith),
+      rw (← c.requires.0) (omega arith),
       (
-        c.before.before.before.before.before.before.before.before.before.before.before.requires.1,
-        (test_yes c.before.before.before.before.before.before.before.is_row_lem.ensures
-            c.before.before.before.before.before.before.if1.false),
-        (still-off _ _ c.before.before.before.before.row_of.ensures c.before.before.before.marked.ensures
-            c.before.before.if2.false),
+        c.requires.1,
+        (test_yes c.is_row.ensures
+            c.if-not-is_row.false-raw),
+        (still-off _ _ c.row_of.ensures c.marked.ensures
+            c.if-marked.false),
       ),
     ))
     (λ c. search rules)
@@ -98,59 +98,59 @@ pub +mark_added_part_mark_added_row_spec : {M : Type 1} → statement M
     )
     (mark_added_row-at t)
     added-row.Post
-    (λ c κs. c.before.before.before.requires.1.1)
-    (λ c κs. added-get c.before.before.before.before.before.before.requires.1.0
-    c.before.before.before.before.before.before.requires.1.1 c.before.before.row_of.ensures _ (omega arith))
-    (λ c κs. added-low c.before.before.before.before.before.before.before.requires.1.0
-    c.before.before.before.before.before.before.before.requires.1.1 c.before.before.before.row_of.ensures
-    c.before.before.before.before.before.before.before.requires.0 c.get.ensures)
+    (λ c κs. c.requires.1.1)
+    (λ c κs. added-get c.requires.1.0
+    c.requires.1.1 c.row_of-i.ensures _ (omega arith))
+    (λ c κs. added-low c.requires.1.0
+    c.requires.1.1 c.row_of-i.ensures
+    c.requires.0 c.get.ensures)
     (λ c κs. added-get
-    c.before.before.before.before.before.before.before.before.before.before.before.before.before.before.requires.1.0
-    c.before.before.before.before.before.before.before.before.before.before.before.before.before.before.requires.1.1
-    c.before.before.before.before.before.before.before.before.before.before.row_of.ensures _ (omega arith))
+    c.requires.1.0
+    c.requires.1.1
+    c.row_of-i.ensures _ (omega arith))
     (λ c κs. added-high
-    c.before.before.before.before.before.before.before.before.before.before.before.before.before.before.before.requires.1.0 c.before.before.before.before.before.before.before.before.before.before.before.before.before.before.before.requires.1.1 c.before.before.before.before.before.before.before.before.before.before.before.row_of.ensures
-    c.before.before.before.before.before.before.before.before.before.before.before.before.before.before.before.requires.0
-    c.before.before.before.before.before.before.before.mark-added-part.ensures
-    c.before.before.before.before.before.before.before.mark-added-part.auto.1.1.0
-    c.before.before.before.before.before.before.before.mark-added-part.auto.1.1.1.0 c.get2.ensures)
+    c.requires.1.0 c.requires.1.1 c.row_of-i.ensures
+    c.requires.0
+    c.mark_added_part.ensures
+    c.mark_added_part.auto.reached
+    c.mark_added_part.auto.added c.get-2.ensures)
     (λ c κs. let l =
     added_in
-    c.before.before.before.before.before.before.before.before.before.before.before.before.before.before.before.before.before.before.before.before.before.requires.1.0
-    c.before.before.before.before.before.before.before.before.before.before.before.before.before.before.before.before.before.before.before.before.before.requires.1.1
-    c.before.before.before.before.before.before.before.before.before.before.before.before.before.before.before.before.before.row_of.ensures in
-    let z = c.before.before.before.before.before.mark-added-part2.auto.1.1.0
-    ∙ c.before.before.before.before.before.before.before.before.before.before.before.before.before.mark-added-part.auto.1.1.0 in omega (arith, l, z))
+    c.requires.1.0
+    c.requires.1.1
+    c.row_of-i.ensures in
+    let z = c.mark_added_part-2.auto.reached
+    ∙ c.mark_added_part.auto.reached in omega (arith, l, z))
     (λ c κs. added-get
-    c.before.before.before.before.before.before.before.before.before.before.before.before.before.before.before.before.before.before.before.before.before.before.before.before.before.requires.1.0
-    c.before.before.before.before.before.before.before.before.before.before.before.before.before.before.before.before.before.before.before.before.before.before.before.before.before.requires.1.1
-    c.before.before.before.before.before.before.before.before.before.before.before.before.before.before.before.before.before.before.before.before.before.row_of.ensures _ (omega arith))
+    c.requires.1.0
+    c.requires.1.1
+    c.row_of-i.ensures _ (omega arith))
     (λ c κs. added-count-asks _
-    c.before.before.before.before.before.before.before.before.before.before.before.before.before.before.before.before.before.before.before.before.before.before.before.before.before.before.requires.1.0
-    c.before.before.before.before.before.before.before.before.before.before.before.before.before.before.before.before.before.before.before.before.before.before.before.before.before.before.requires.1.1
-    c.before.before.before.before.before.before.before.before.before.before.before.before.before.before.before.before.before.before.before.before.before.before.row_of.ensures
-    c.before.before.before.before.before.before.before.before.before.before.before.before.before.before.before.before.before.before.before.before.before.before.before.before.before.before.requires.1.2
-    c.before.before.before.before.before.before.before.before.before.before.before.before.before.before.before.before.before.before.mark-added-part.ensures
-    c.before.before.before.before.before.before.before.before.before.before.before.before.before.before.before.before.before.before.before.get.ensures
-    c.before.before.before.before.before.before.before.before.before.before.mark-added-part2.ensures
-    c.before.before.before.before.before.before.before.before.before.before.before.get2.ensures c.get3.ensures
-    (c.before.before.before.before.before.before.before.before.before.before.mark-added-part2.auto.1.1.1.0
-    ∙ c.before.before.before.before.before.before.before.before.before.before.before.before.before.before.before.before.before.before.mark-added-part.auto.1.1.1.0
-    ∙ c.before.before.before.before.before.before.before.before.before.before.before.before.before.before.before.before.before.before.before.before.before.before.before.before.before.before.requires.1.0.counts-size))
-    (λ c. c.before.before.before.before.before.before.before.set-mark.auto.0
-    ∙ c.before.before.before.before.before.before.before.before.before.before.before.before.before.mark-added-part2.auto.1.1.0
-    ∙ c.before.before.before.before.before.before.before.before.before.before.before.before.before.before.before.before.before.before.before.before.before.mark-added-part.auto.1.1.0)
-    (λ c. c.before.before.count-one.auto.0
-    ∙ c.before.before.before.before.before.before.before.before.before.before.before.before.before.mark-added-part2.auto.1.1.1.0
-    ∙ c.before.before.before.before.before.before.before.before.before.before.before.before.before.before.before.before.before.before.before.before.before.mark-added-part.auto.1.1.1.0)
+    c.requires.1.0
+    c.requires.1.1
+    c.row_of-i.ensures
+    c.requires.1.2
+    c.mark_added_part.ensures
+    c.get.ensures
+    c.mark_added_part-2.ensures
+    c.get-2.ensures c.get-3.ensures
+    (c.mark_added_part-2.auto.added
+    ∙ c.mark_added_part.auto.added
+    ∙ c.requires.1.0.counts-size))
+    (λ c. c.set_mark.auto.marks
+    ∙ c.mark_added_part-2.auto.reached
+    ∙ c.mark_added_part.auto.reached)
+    (λ c. c.count_one.auto.counts
+    ∙ c.mark_added_part-2.auto.added
+    ∙ c.mark_added_part.auto.added)
     (λ c. added-done _
-    c.before.before.before.before.before.before.before.before.before.before.before.before.before.before.before.before.before.before.before.before.before.before.before.before.before.before.before.before.before.requires.1.0
-    c.before.before.before.before.before.before.before.before.before.before.before.before.before.before.before.before.before.before.before.before.before.before.before.before.before.before.before.before.before.requires.1.1
-    c.before.before.before.before.before.before.before.before.before.before.before.before.before.before.before.before.before.before.before.before.before.before.before.before.before.row_of.ensures
-    c.before.before.before.before.before.before.before.before.before.before.before.before.before.before.before.before.before.before.before.before.before.before.before.before.before.before.before.before.before.requires.1.2
-    c.before.before.before.before.before.before.before.before.before.before.before.before.before.before.before.before.before.before.before.before.before.mark-added-part.ensures
-    c.before.before.before.before.before.before.before.before.before.before.before.before.before.before.before.before.before.before.before.before.before.before.get.ensures
-    c.before.before.before.before.before.before.before.before.before.before.before.before.before.mark-added-part2.ensures
-    c.before.before.before.before.before.before.before.before.before.before.before.before.before.before.get2.ensures
-    c.before.before.before.before.before.before.before.set-mark.ensures c.before.before.before.get3.ensures
-    c.before.before.count-one.ensures)
+    c.requires.1.0
+    c.requires.1.1
+    c.row_of-i.ensures
+    c.requires.1.2
+    c.mark_added_part.ensures
+    c.get.ensures
+    c.mark_added_part-2.ensures
+    c.get-2.ensures
+    c.set_mark.ensures c.get-3.ensures
+    c.count_one.ensures)

@@ -51,44 +51,44 @@ pub +renew_spec : {M : Type 1} → statement M
     (renew-at t)
     renew.Post
     (λ c κs. search rules)
-    (λ c. renew-none c.before.before.before.before.requires.1)
-    (λ c κs. let l = renew_in c.before.before.before.before.before.requires.1 in
-    let z = c.before.before.before.before.before.requires.1.room in omega (arith, l, z))
+    (λ c. renew-none c.requires.1)
+    (λ c κs. let l = renew_in c.requires.1 in
+    let z = c.requires.1.room in omega (arith, l, z))
     (λ c. search rules)
-    (λ c. renew-none c.before.before.before.before.before.before.before.requires.1)
-    (λ c κs. test_yes c.before.before.before.before.before.is_row_lem.ensures c.before.before.before.before.if1.false)
-    (λ c κs. renew-row c.before.before.before.before.before.before.before.before.before.requires.1
-    (test_yes c.before.before.before.before.before.before.is_row_lem.ensures
-    c.before.before.before.before.before.if1.false) c.row_of.ensures)
-    (λ c κs. renew-low c.before.before.before.before.before.before.before.before.before.before.before.before.requires.1
-    (test_yes c.before.before.before.before.before.before.before.before.before.is_row_lem.ensures
-    c.before.before.before.before.before.before.before.before.if1.false) c.before.before.before.row_of.ensures
+    (λ c. renew-none c.requires.1)
+    (λ c κs. test_yes c.is_row.ensures c.if-not-is_row.false-raw)
+    (λ c κs. renew-row c.requires.1
+    (test_yes c.is_row.ensures
+    c.if-not-is_row.false-raw) c.row_of.ensures)
+    (λ c κs. renew-low c.requires.1
+    (test_yes c.is_row.ensures
+    c.if-not-is_row.false-raw) c.row_of.ensures
     c.before.before.Node-at.ensures
-    c.before.before.before.before.before.before.before.before.before.before.before.before.requires.0)
+    c.requires.0)
     (λ c κs. renew-high
-    c.before.before.before.before.before.before.before.before.before.before.before.before.before.before.before.before.before.before.before.requires.1
+    c.requires.1
     (test_yes
-    c.before.before.before.before.before.before.before.before.before.before.before.before.before.before.before.before.is_row_lem.ensures
-    c.before.before.before.before.before.before.before.before.before.before.before.before.before.before.before.if1.false) c.before.before.before.before.before.before.before.before.before.before.row_of.ensures
+    c.is_row.ensures
+    c.if-not-is_row.false-raw) c.row_of.ensures
     c.before.before.before.before.before.before.before.before.before.Node-at.ensures
-    c.before.before.before.before.before.before.before.before.before.before.before.before.before.before.before.before.before.before.before.requires.0 c.before.before.before.before.before.before.renew.ensures
-    c.before.before.before.before.before.before.renew.auto.1.1.1.1.0)
+    c.requires.0 c.renew.ensures
+    c.renew.auto.seen)
     (λ c κs. let l =
     renew_in
-    c.before.before.before.before.before.before.before.before.before.before.before.before.before.before.before.before.before.before.before.before.before.before.before.before.before.requires.1 in
-    let z = c.before.before.before.before.before.renew2.auto.1.1.1.1.0
-    ∙ c.before.before.before.before.before.before.before.before.before.before.before.before.renew.auto.1.1.1.1.0 in
+    c.requires.1 in
+    let z = c.renew-2.auto.seen
+    ∙ c.renew.auto.seen in
     omega (arith, l, z))
     (λ c κs. renew-asks
-    c.before.before.before.before.before.before.before.before.before.before.before.before.before.before.before.before.before.before.before.before.before.before.before.before.before.before.before.before.before.requires.1
-    c.before.before.before.before.before.before.before.before.before.before.before.before.before.before.before.before.renew.ensures c.before.before.before.before.before.before.before.before.before.renew2.ensures)
-    (λ c. c.before.before.exists-odd.auto.0
-    ∙ c.before.before.before.before.before.before.before.before.before.before.before.before.renew2.auto.0
-    ∙ c.before.before.before.before.before.before.before.before.before.before.before.before.before.before.before.before.before.before.before.renew.auto.0)
-    (λ c. c.before.before.before.before.before.before.set-mark.auto.0
-    ∙ c.before.before.before.before.before.before.before.before.before.before.before.before.renew2.auto.1.1.1.1.0
-    ∙ c.before.before.before.before.before.before.before.before.before.before.before.before.before.before.before.before.before.before.before.renew.auto.1.1.1.1.0)
+    c.requires.1
+    c.renew.ensures c.renew-2.ensures)
+    (λ c. c.exists_odd.auto.words
+    ∙ c.renew-2.auto.words
+    ∙ c.renew.auto.words)
+    (λ c. c.set_mark.auto.marks
+    ∙ c.renew-2.auto.seen
+    ∙ c.renew.auto.seen)
     (λ c. renew-last
-    c.before.before.before.before.before.before.before.before.before.before.before.before.before.before.before.before.before.before.before.before.before.before.before.before.before.before.before.before.before.before.before.before.requires.1 c.before.before.before.before.before.before.before.before.before.before.before.before.before.before.before.before.before.before.before.renew.ensures
-    c.before.before.before.before.before.before.before.before.before.before.before.before.renew2.ensures
-    c.before.before.exists-odd.ensures)
+    c.requires.1 c.renew.ensures
+    c.renew-2.ensures
+    c.exists_odd.ensures)

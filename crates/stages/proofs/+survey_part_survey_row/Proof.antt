@@ -65,28 +65,28 @@ pub +survey_part_survey_row_spec : {M : Type 1} → statement M
     (survey_part-at t)
     survey-part.Post
     (λ c κs. search rules)
-    (λ c. λ e. survey_constant c.before.before.before.before.before.before.before.requires.1
-    (test_no c.before.is_row_lem.ensures c.if1.true))
-    (λ c κs. let l = survey_in c.before.before.before.before.before.before.before.before.requires.1 in
-    let z = c.before.before.before.before.before.before.before.before.requires.1.seen-room in omega (arith, l, z))
+    (λ c. λ e. survey_constant c.requires.1
+    (test_no c.is_row.ensures c.if-not-is_row.true-raw))
+    (λ c κs. let l = survey_in c.requires.1 in
+    let z = c.requires.1.seen-room in omega (arith, l, z))
     (λ c. search rules)
-    (λ c. λ e. survey_again c.before.before.before.before.before.before.before.before.before.before.requires.1
-    (sym c.before.marked.ensures ∙ c.if2.true))
+    (λ c. λ e. survey_again c.requires.1
+    (sym c.marked.ensures ∙ c.if-marked.true))
     (λ c κs. (
-      rw (← c.before.before.before.before.before.before.before.before.before.before.before.before.before.before.requires.0)
+      rw (← c.requires.0)
           (omega arith),
       (
-        c.before.before.before.before.before.before.before.before.before.before.before.before.before.before.requires.1,
-        (test_yes c.before.before.before.before.before.before.before.before.is_row_lem.ensures
-            c.before.before.before.before.before.before.before.if1.false),
-        (sym c.before.before.before.before.before.marked.ensures ∙ c.before.before.before.before.if2.false),
+        c.requires.1,
+        (test_yes c.is_row.ensures
+            c.if-not-is_row.false-raw),
+        (sym c.marked.ensures ∙ c.if-marked.false),
       ),
     ))
     (λ c. search rules)
     (λ c. search rules)
     (λ c. search rules)
     (λ c. search rules)
-    (λ c. c.before.before.before.before.before.before.before.before.survey_row_lem.ensures))
+    (λ c. c.survey_row.ensures))
     λ t. survey-row-lts.spec (
       odd-known-reads.Asked,
       odd-known-reads.Learnt,
@@ -106,102 +106,102 @@ pub +survey_part_survey_row_spec : {M : Type 1} → statement M
     (survey_row-at t)
     survey_row_lem.Post
     (λ c κs.
-    (c.before.before.before.before.before.requires.1.0.ready, c.before.before.before.before.before.requires.1.0.marking.arrow))
+    (c.requires.1.0.ready, c.requires.1.0.marking.arrow))
     (λ c. search rules)
     (λ c. search rules)
     (λ c. λ e. absurd (true≢false (sym e)))
-    (λ c κs. cover_asks c.before.before.before.before.before.before.before.before.before.before.before.requires.1.0
-    c.before.before.before.known.given.1 c.before.before.before.before.before.odd-known.ensures)
+    (λ c κs. cover_asks c.requires.1.0
+    c.in-At.is c.odd_known-known.ensures)
     (λ c κs.
-    c.before.before.before.before.before.before.before.before.before.before.before.before.before.before.before.before.requires.1.1)
+    c.requires.1.1)
     (λ c κs. survey-place
-    c.before.before.before.before.before.before.before.before.before.before.before.before.before.before.before.before.before.requires.1.0
-    c.before.before.before.before.before.before.before.before.before.before.before.before.before.before.before.before.before.requires.1.1 c.row_of.ensures)
+    c.requires.1.0
+    c.requires.1.1 c.row_of.ensures)
     (λ c κs. low-asks
-    c.before.before.before.before.before.before.before.before.before.before.before.before.before.before.before.before.before.before.before.before.before.before.requires.1.0
-    c.before.before.before.before.before.before.before.before.before.before.before.before.before.before.before.before.before.before.before.before.before.before.requires.1.1 c.before.before.before.before.before.row_of.ensures
-    c.before.before.before.before.before.before.before.before.before.before.before.before.before.before.known.given.1
-    c.before.before.before.before.before.before.before.before.before.before.before.before.before.before.before.before.odd-known.ensures c.before.before.before.before.before.before.before.before.before.before.mark-added.ensures
+    c.requires.1.0
+    c.requires.1.1 c.row_of.ensures
+    c.in-At.is
+    c.odd_known-known.ensures c.mark_added.ensures
     c.before.before.before.before.Node-at.ensures
-    c.before.before.before.before.before.before.before.before.before.before.before.before.before.before.before.before.before.before.before.before.before.before.requires.0
-    c.before.before.before.before.before.before.before.before.before.before.mark-added.auto.1.1.0
-    c.before.before.before.before.before.before.before.before.before.before.mark-added.auto.1.1.1.0)
-    (λ c. c.before.before.before.before.before.before.before.before.before.survey-part.auto.1.1.1.0)
-    (λ c. c.before.before.before.before.before.before.before.before.before.survey-part.auto.1.1.1.1.0)
-    (λ c. c.before.before.before.before.before.before.before.before.before.survey-part.auto.1.1.1.1.1.0
-    ∙ c.before.before.before.before.before.before.before.before.before.before.before.before.before.before.before.before.before.before.before.before.mark-added.auto.1.1.0)
-    (λ c. c.before.before.before.before.before.before.before.before.before.survey-part.auto.1.1.1.1.1.1.0
-    ∙ c.before.before.before.before.before.before.before.before.before.before.before.before.before.before.before.before.before.before.before.before.mark-added.auto.1.1.1.0)
+    c.requires.0
+    c.mark_added.auto.reached
+    c.mark_added.auto.added)
+    (λ c. c.survey_part.auto.seen)
+    (λ c. c.survey_part.auto.above)
+    (λ c. c.survey_part.auto.reached
+    ∙ c.mark_added.auto.reached)
+    (λ c. c.survey_part.auto.added
+    ∙ c.mark_added.auto.added)
     (λ c. λ e. absurd (true≢false (sym e)))
     (λ c κs. high-asks
-    c.before.before.before.before.before.before.before.before.before.before.before.before.before.before.before.before.before.before.before.before.before.before.before.before.before.before.before.before.before.before.before.before.before.before.before.before.requires.1.0
-    c.before.before.before.before.before.before.before.before.before.before.before.before.before.before.before.before.before.before.before.before.before.before.before.before.before.before.before.before.before.before.before.before.before.before.before.before.requires.1.1
-    c.before.before.before.before.before.before.before.before.before.before.before.before.before.before.before.before.before.before.before.row_of.ensures
-    c.before.before.before.before.before.before.before.before.before.before.before.before.before.before.before.before.before.before.before.before.before.before.before.before.before.before.before.before.known.given.1
-    c.before.before.before.before.before.before.before.before.before.before.before.before.before.before.before.before.before.before.before.before.before.before.before.before.before.before.before.before.before.before.odd-known.ensures
-    c.before.before.before.before.before.before.before.before.before.before.before.before.before.before.before.before.before.before.before.before.before.before.before.before.mark-added.ensures
+    c.requires.1.0
+    c.requires.1.1
+    c.row_of.ensures
+    c.in-At.is
+    c.odd_known-known.ensures
+    c.mark_added.ensures
     c.before.before.before.before.before.before.before.before.before.before.before.before.before.before.before.before.before.before.Node-at.ensures
-    (c.before.before.before.before.before.before.before.before.before.before.before.before.before.survey-part.ensures
-    (not-false _ c.before.before.before.before.if1.false))
-    c.before.before.before.before.before.before.before.before.before.before.before.before.before.before.before.before.before.before.before.before.before.before.before.before.before.before.before.before.before.before.before.before.before.before.before.before.requires.0
-    c.before.before.before.before.before.before.before.before.before.before.before.before.before.survey-part.auto.1.1.1.0 c.before.before.before.before.before.before.before.before.before.before.before.before.before.survey-part.auto.1.1.1.1.0
-    (c.before.before.before.before.before.before.before.before.before.before.before.before.before.survey-part.auto.1.1.1.1.1.0
-    ∙ c.before.before.before.before.before.before.before.before.before.before.before.before.before.before.before.before.before.before.before.before.before.before.before.before.mark-added.auto.1.1.0)
-    (c.before.before.before.before.before.before.before.before.before.before.before.before.before.survey-part.auto.1.1.1.1.1.1.0
-    ∙ c.before.before.before.before.before.before.before.before.before.before.before.before.before.before.before.before.before.before.before.before.before.before.before.before.mark-added.auto.1.1.1.0))
-    (λ c. c.before.before.before.before.before.before.before.before.before.survey-part2.auto.1.1.1.0
-    ∙ c.before.before.before.before.before.before.before.before.before.before.before.before.before.before.before.before.before.before.before.before.before.before.before.survey-part.auto.1.1.1.0)
-    (λ c. c.before.before.before.before.before.before.before.before.before.survey-part2.auto.1.1.1.1.0
-    ∙ c.before.before.before.before.before.before.before.before.before.before.before.before.before.before.before.before.before.before.before.before.before.before.before.survey-part.auto.1.1.1.1.0)
-    (λ c. c.before.before.before.before.before.before.before.before.before.survey-part2.auto.1.1.1.1.1.0
-    ∙ c.before.before.before.before.before.before.before.before.before.before.before.before.before.before.before.before.before.before.before.before.before.before.before.survey-part.auto.1.1.1.1.1.0
-    ∙ c.before.before.before.before.before.before.before.before.before.before.before.before.before.before.before.before.before.before.before.before.before.before.before.before.before.before.before.before.before.before.before.before.before.before.mark-added.auto.1.1.0)
-    (λ c. c.before.before.before.before.before.before.before.before.before.survey-part2.auto.1.1.1.1.1.1.0
-    ∙ c.before.before.before.before.before.before.before.before.before.before.before.before.before.before.before.before.before.before.before.before.before.before.before.survey-part.auto.1.1.1.1.1.1.0
-    ∙ c.before.before.before.before.before.before.before.before.before.before.before.before.before.before.before.before.before.before.before.before.before.before.before.before.before.before.before.before.before.before.before.before.before.before.mark-added.auto.1.1.1.0)
+    (c.survey_part.ensures
+    (not-false _ c.if-not-survey_part.false-raw))
+    c.requires.0
+    c.survey_part.auto.seen c.survey_part.auto.above
+    (c.survey_part.auto.reached
+    ∙ c.mark_added.auto.reached)
+    (c.survey_part.auto.added
+    ∙ c.mark_added.auto.added))
+    (λ c. c.survey_part-2.auto.seen
+    ∙ c.survey_part.auto.seen)
+    (λ c. c.survey_part-2.auto.above
+    ∙ c.survey_part.auto.above)
+    (λ c. c.survey_part-2.auto.reached
+    ∙ c.survey_part.auto.reached
+    ∙ c.mark_added.auto.reached)
+    (λ c. c.survey_part-2.auto.added
+    ∙ c.survey_part.auto.added
+    ∙ c.mark_added.auto.added)
     (λ c. λ e. absurd (true≢false (sym e)))
     (λ c κs. let l =
     survey_in
-    c.before.before.before.before.before.before.before.before.before.before.before.before.before.before.before.before.before.before.before.before.before.before.before.before.before.before.before.before.before.before.before.before.before.before.before.before.before.before.before.before.before.before.before.before.before.before.before.requires.1.0 in let z = c.before.before.before.before.before.before.before.before.before.before.survey-part2.auto.1.1.1.0
-    ∙ c.before.before.before.before.before.before.before.before.before.before.before.before.before.before.before.before.before.before.before.before.before.before.before.before.survey-part.auto.1.1.1.0 in omega (arith, l, z))
+    c.requires.1.0 in let z = c.survey_part-2.auto.seen
+    ∙ c.survey_part.auto.seen in omega (arith, l, z))
     (λ c κs. survey-counts
-    c.before.before.before.before.before.before.before.before.before.before.before.before.before.before.before.before.before.before.before.before.before.before.before.before.before.before.before.before.before.before.before.before.before.before.before.before.before.before.before.before.before.before.before.before.before.before.before.before.before.before.before.requires.1.0
-    c.before.before.before.before.before.before.before.before.before.before.before.before.before.before.before.before.before.before.before.before.before.before.before.before.before.before.before.before.before.before.before.before.before.before.before.before.before.before.before.before.before.before.before.before.before.before.before.before.before.before.before.requires.1.1
-    c.before.before.before.before.before.before.before.before.before.before.before.before.before.before.before.before.before.before.before.before.before.before.before.before.before.before.before.before.before.before.before.before.before.before.row_of.ensures
-    c.before.before.before.before.before.before.before.before.before.before.before.before.before.before.before.before.before.before.before.before.before.before.before.before.before.before.before.before.before.before.before.before.before.before.before.before.before.before.before.before.before.before.before.known.given.1
-    c.before.before.before.before.before.before.before.before.before.before.before.before.before.before.before.before.before.before.before.before.before.before.before.before.before.before.before.before.before.before.before.before.before.before.before.before.before.before.before.before.before.before.before.before.before.odd-known.ensures
-    c.before.before.before.before.before.before.before.before.before.before.before.before.before.before.before.before.before.before.before.before.before.before.before.before.before.before.before.before.before.before.before.before.before.before.before.before.before.before.before.mark-added.ensures
+    c.requires.1.0
+    c.requires.1.1
+    c.row_of.ensures
+    c.in-At.is
+    c.odd_known-known.ensures
+    c.mark_added.ensures
     c.before.before.before.before.before.before.before.before.before.before.before.before.before.before.before.before.before.before.before.before.before.before.before.before.before.before.before.before.before.before.before.before.before.Node-at.ensures
-    (c.before.before.before.before.before.before.before.before.before.before.before.before.before.before.before.before.before.before.before.before.before.before.before.before.before.before.before.before.survey-part.ensures
+    (c.survey_part.ensures
     (not-false _
-    c.before.before.before.before.before.before.before.before.before.before.before.before.before.before.before.before.before.before.before.if1.false))
-    c.before.before.before.before.before.before.before.before.before.before.before.before.before.before.before.before.before.before.before.before.before.before.before.before.before.before.before.before.before.before.before.before.before.before.before.before.before.before.before.before.before.before.before.before.before.before.before.before.before.before.before.requires.1.2
-    (c.before.before.before.before.before.before.before.before.before.before.before.before.before.before.survey-part2.ensures (not-false _ c.before.before.before.before.before.if2.false))
-    (c.before.before.before.before.before.before.before.before.before.before.before.before.before.before.survey-part2.auto.1.1.1.1.0
-    ∙ c.before.before.before.before.before.before.before.before.before.before.before.before.before.before.before.before.before.before.before.before.before.before.before.before.before.before.before.before.survey-part.auto.1.1.1.1.0))
-    (λ c. c.before.before.before.before.before.before.set-mark.auto.0
-    ∙ c.before.before.before.before.before.before.before.before.before.before.before.before.before.before.before.before.before.survey-part2.auto.1.1.1.0
-    ∙ c.before.before.before.before.before.before.before.before.before.before.before.before.before.before.before.before.before.before.before.before.before.before.before.before.before.before.before.before.before.before.before.survey-part.auto.1.1.1.0)
-    (λ c. c.before.before.count-one.auto.0
-    ∙ c.before.before.before.before.before.before.before.before.before.before.before.before.before.before.before.before.before.survey-part2.auto.1.1.1.1.0
-    ∙ c.before.before.before.before.before.before.before.before.before.before.before.before.before.before.before.before.before.before.before.before.before.before.before.before.before.before.before.before.before.before.before.survey-part.auto.1.1.1.1.0)
-    (λ c. c.before.before.before.before.before.before.before.before.before.before.before.before.before.before.before.before.before.survey-part2.auto.1.1.1.1.1.0
-    ∙ c.before.before.before.before.before.before.before.before.before.before.before.before.before.before.before.before.before.before.before.before.before.before.before.before.before.before.before.before.before.before.before.survey-part.auto.1.1.1.1.1.0
-    ∙ c.before.before.before.before.before.before.before.before.before.before.before.before.before.before.before.before.before.before.before.before.before.before.before.before.before.before.before.before.before.before.before.before.before.before.before.before.before.before.before.before.before.before.mark-added.auto.1.1.0)
-    (λ c. c.before.before.before.before.before.before.before.before.before.before.before.before.before.before.before.before.before.survey-part2.auto.1.1.1.1.1.1.0
-    ∙ c.before.before.before.before.before.before.before.before.before.before.before.before.before.before.before.before.before.before.before.before.before.before.before.before.before.before.before.before.before.before.before.survey-part.auto.1.1.1.1.1.1.0
-    ∙ c.before.before.before.before.before.before.before.before.before.before.before.before.before.before.before.before.before.before.before.before.before.before.before.before.before.before.before.before.before.before.before.before.before.before.before.before.before.before.before.before.before.before.mark-added.auto.1.1.1.0)
+    c.if-not-survey_part.false-raw))
+    c.requires.1.2
+    (c.survey_part-2.ensures (not-false _ c.if-not-survey_part-2.false-raw))
+    (c.survey_part-2.auto.above
+    ∙ c.survey_part.auto.above))
+    (λ c. c.set_mark.auto.marks
+    ∙ c.survey_part-2.auto.seen
+    ∙ c.survey_part.auto.seen)
+    (λ c. c.count_one.auto.counts
+    ∙ c.survey_part-2.auto.above
+    ∙ c.survey_part.auto.above)
+    (λ c. c.survey_part-2.auto.reached
+    ∙ c.survey_part.auto.reached
+    ∙ c.mark_added.auto.reached)
+    (λ c. c.survey_part-2.auto.added
+    ∙ c.survey_part.auto.added
+    ∙ c.mark_added.auto.added)
     (λ c. λ e. survey-done
-    c.before.before.before.before.before.before.before.before.before.before.before.before.before.before.before.before.before.before.before.before.before.before.before.before.before.before.before.before.before.before.before.before.before.before.before.before.before.before.before.before.before.before.before.before.before.before.before.before.before.before.before.before.before.before.requires.1.0
-    c.before.before.before.before.before.before.before.before.before.before.before.before.before.before.before.before.before.before.before.before.before.before.before.before.before.before.before.before.before.before.before.before.before.before.before.before.before.before.before.before.before.before.before.before.before.before.before.before.before.before.before.before.before.before.requires.1.1
-    c.before.before.before.before.before.before.before.before.before.before.before.before.before.before.before.before.before.before.before.before.before.before.before.before.before.before.before.before.before.before.before.before.before.before.before.before.before.row_of.ensures
-    c.before.before.before.before.before.before.before.before.before.before.before.before.before.before.before.before.before.before.before.before.before.before.before.before.before.before.before.before.before.before.before.before.before.before.before.before.before.before.before.before.before.before.before.before.before.before.known.given.1
-    c.before.before.before.before.before.before.before.before.before.before.before.before.before.before.before.before.before.before.before.before.before.before.before.before.before.before.before.before.before.before.before.before.before.before.before.before.before.before.before.before.before.before.before.before.before.before.before.before.odd-known.ensures
-    c.before.before.before.before.before.before.before.before.before.before.before.before.before.before.before.before.before.before.before.before.before.before.before.before.before.before.before.before.before.before.before.before.before.before.before.before.before.before.before.before.before.before.mark-added.ensures
+    c.requires.1.0
+    c.requires.1.1
+    c.row_of.ensures
+    c.in-At.is
+    c.odd_known-known.ensures
+    c.mark_added.ensures
     c.before.before.before.before.before.before.before.before.before.before.before.before.before.before.before.before.before.before.before.before.before.before.before.before.before.before.before.before.before.before.before.before.before.before.before.before.Node-at.ensures
-    (c.before.before.before.before.before.before.before.before.before.before.before.before.before.before.before.before.before.before.before.before.before.before.before.before.before.before.before.before.before.before.before.survey-part.ensures
+    (c.survey_part.ensures
     (not-false _
-    c.before.before.before.before.before.before.before.before.before.before.before.before.before.before.before.before.before.before.before.before.before.before.if1.false))
-    c.before.before.before.before.before.before.before.before.before.before.before.before.before.before.before.before.before.before.before.before.before.before.before.before.before.before.before.before.before.before.before.before.before.before.before.before.before.before.before.before.before.before.before.before.before.before.before.before.before.before.before.before.before.before.requires.1.2
-    (c.before.before.before.before.before.before.before.before.before.before.before.before.before.before.before.before.before.survey-part2.ensures (not-false _ c.before.before.before.before.before.before.before.before.if2.false))
-    c.before.before.before.before.before.before.set-mark.ensures c.before.before.count-one.ensures)
+    c.if-not-survey_part.false-raw))
+    c.requires.1.2
+    (c.survey_part-2.ensures (not-false _ c.if-not-survey_part-2.false-raw))
+    c.set_mark.ensures c.count_one.ensures)

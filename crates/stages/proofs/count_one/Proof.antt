@@ -16,4 +16,4 @@ count_one_spec =
     (λ c. search rules)
     (λ c. search rules)
     (λ c. search rules)
-    (λ c. one_more _ _ c.before.requires.0))
+    (λ c. one_more _ _ c.requires.0))

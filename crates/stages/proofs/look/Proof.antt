@@ -13,16 +13,16 @@ look_spec =
     (λ c. search rules)
     (λ c. search rules)
     (λ c κs. (
-      c.before.before.before.before.before.before.requires,
-      few-room c.before.before.if1.true,
-      seen-blank 257 (let l = c.before.before.if1.true in omega (arith, l)),
+      c.requires,
+      few-room c.if-rows-le-ROWS.true,
+      seen-blank 257 (let l = c.if-rows-le-ROWS.true in omega (arith, l)),
     ))
     (λ c. search rules)
     (λ c. search rules)
     (λ c. search rules)
     (λ c κs. (
-      c.before.before.before.before.before.before.requires,
-      all_room c.before.before.before.before.before.before.requires.sound,
-      seen-blank 3751 (let l = c.before.before.before.before.before.before.requires.sound.good.sizes.N-max in omega (arith, l)),
+      c.requires,
+      all_room c.requires.sound,
+      seen-blank 3751 (let l = c.requires.sound.good.sizes.N-max in omega (arith, l)),
     ))
     (λ c. search rules))

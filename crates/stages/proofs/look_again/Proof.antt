@@ -11,29 +11,29 @@ look_again_spec =
     (λ c. search rules)
     (λ c κs. search rules)
     (λ c κs. look-asks
-    (pre-grown c.before.before.before.before.before.before.before.before.requires.0
-    c.before.before.before.renew-all.ensures)
-    (base-grown c.before.before.before.before.before.before.before.before.requires.0
-    c.before.before.before.renew-all.ensures c.before.before.before.before.before.before.before.before.requires.1))
+    (pre-grown c.requires.0
+    c.renew_all.ensures)
+    (base-grown c.requires.0
+    c.renew_all.ensures c.requires.1))
     (λ c. search rules)
     (λ c. search rules)
     (λ c. search rules)
     (λ c. search rules)
-    (λ c. sure-grown c.before.before.before.before.before.before.before.before.before.before.before.requires.0
-    c.before.before.before.before.before.before.renew-all.ensures
+    (λ c. sure-grown c.requires.0
+    c.renew_all.ensures
     (sure-yes
-    (pre-grown c.before.before.before.before.before.before.before.before.before.before.before.requires.0
-    c.before.before.before.before.before.before.renew-all.ensures) c.before.before.look.ensures
-    c.enum_told.given.1))
+    (pre-grown c.requires.0
+    c.renew_all.ensures) c.look-looked.ensures
+    c.in-Fits.is))
     (λ c. search rules)
-    (λ c. sure-grown c.before.before.before.before.before.before.before.before.before.before.before.requires.0
-    c.before.before.before.before.before.before.renew-all.ensures
+    (λ c. sure-grown c.requires.0
+    c.renew_all.ensures
     (sure-no
-    (pre-grown c.before.before.before.before.before.before.before.before.before.before.before.requires.0
-    c.before.before.before.before.before.before.renew-all.ensures)))
+    (pre-grown c.requires.0
+    c.renew_all.ensures)))
     (λ c. search rules)
-    (λ c. sure-grown c.before.before.before.before.before.before.before.before.before.before.before.requires.0
-    c.before.before.before.before.before.before.renew-all.ensures
+    (λ c. sure-grown c.requires.0
+    c.renew_all.ensures
     (sure-no
-    (pre-grown c.before.before.before.before.before.before.before.before.before.before.before.requires.0
-    c.before.before.before.before.before.before.renew-all.ensures))))
+    (pre-grown c.requires.0
+    c.renew_all.ensures))))

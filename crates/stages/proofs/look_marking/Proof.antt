@@ -18,50 +18,50 @@ look_marking_spec =
     (λ c κs. (
       record {
         sound =
-            c.before.before.before.before.before.before.requires.0.sound;
+            c.requires.0.sound;
         arrows =
-            c.before.before.before.before.before.before.requires.0.arrows;
+            c.requires.0.arrows;
       },
-      c.before.before.before.before.before.before.requires.0.base,
-      c.before.before.before.before.before.before.requires.1,
+      c.requires.0.base,
+      c.requires.1,
     ))
     (λ c. search rules)
     (λ c. search rules)
     (λ c. search rules)
-    (λ c κs. look-asks c.before.before.before.before.before.before.before.before.before.before.before.before.before.requires.0
-    c.before.before.before.before.before.before.mark-live.ensures
-    c.before.before.before.before.before.before.before.before.before.before.before.before.before.requires.2
-    (let e = c.before.before.before.before.before.before.mark-live.auto.1.1.1.1.0 in
-    let r = c.before.before.before.before.before.before.before.before.before.before.before.before.before.requires.1.enough in
+    (λ c κs. look-asks c.requires.0
+    c.mark_live-live.ensures
+    c.requires.2
+    (let e = c.mark_live-live.auto.marks in
+    let r = c.requires.1.enough in
     omega (arith, e, r)))
-    (λ c. c.before.before.before.before.before.before.before.survey.auto.1.1.1.1.1.0
-    ∙ c.before.before.before.before.before.before.before.before.before.before.before.before.before.before.mark-live.auto.1.1.1.1.0)
-    (λ c. c.before.before.before.before.before.before.before.survey.auto.1.1.1.0)
+    (λ c. c.survey.auto.reached
+    ∙ c.mark_live-live.auto.marks)
+    (λ c. c.survey.auto.seen)
     (λ c. record { fits = λ e. let z : ◌≡◌ {A = ℕ} 0 1 = cc in absurd (omega arith) })
     (λ c. search rules)
     (λ c. search rules)
     (λ c κs. look-levels
-    c.before.before.before.before.before.before.before.before.before.before.before.before.before.before.before.before.before.before.before.before.before.before.before.requires.0
-    c.before.before.before.before.before.before.before.before.before.before.before.before.before.before.before.before.mark-live.ensures
-    c.before.before.before.before.before.before.before.before.before.before.before.before.before.before.before.before.before.before.before.before.before.before.before.requires.2
-    (c.before.before.before.before.before.before.before.before.before.survey.ensures
-    (not-false _ c.before.before.if1.false))
-    (c.before.before.before.before.before.before.before.before.before.survey.auto.1.1.1.1.0
+    c.requires.0
+    c.mark_live-live.ensures
+    c.requires.2
+    (c.survey.ensures
+    (not-false _ c.if-not-survey.false-raw))
+    (c.survey.auto.above
     ∙ length-replicate {A = ℕ} 34 0)
-    (c.before.before.before.before.before.before.before.before.before.survey.auto.1.1.1.1.1.1.0
+    (c.survey.auto.added
     ∙ length-replicate {A = ℕ} 34 0))
-    (λ c. c.before.before.before.before.before.before.before.before.before.before.before.survey.auto.1.1.1.1.1.0
-    ∙ c.before.before.before.before.before.before.before.before.before.before.before.before.before.before.before.before.before.before.mark-live.auto.1.1.1.1.0)
-    (λ c. c.before.before.before.before.before.before.before.before.before.before.before.survey.auto.1.1.1.0)
+    (λ c. c.survey.auto.reached
+    ∙ c.mark_live-live.auto.marks)
+    (λ c. c.survey.auto.seen)
     (λ c. record {
       fits = λ e. look-fits
-          c.before.before.before.before.before.before.before.before.before.before.before.before.before.before.before.before.before.before.before.before.before.before.before.before.before.requires.0
-          c.before.before.before.before.before.before.before.before.before.before.before.before.before.before.before.before.before.before.mark-live.ensures
-          c.before.before.before.before.before.before.before.before.before.before.before.before.before.before.before.before.before.before.before.before.before.before.before.before.before.requires.2
-          (c.before.before.before.before.before.before.before.before.before.before.before.survey.ensures
-          (not-false _ c.before.before.before.before.if1.false)) (says-yes c.if2.true c.before.within.ensures);
+          c.requires.0
+          c.mark_live-live.ensures
+          c.requires.2
+          (c.survey.ensures
+          (not-false _ c.if-not-survey.false-raw)) (says-yes c.if-within.true c.within.ensures);
     })
-    (λ c. c.before.before.before.before.before.before.before.before.before.before.before.survey.auto.1.1.1.1.1.0
-    ∙ c.before.before.before.before.before.before.before.before.before.before.before.before.before.before.before.before.before.before.mark-live.auto.1.1.1.1.0)
-    (λ c. c.before.before.before.before.before.before.before.before.before.before.before.survey.auto.1.1.1.0)
+    (λ c. c.survey.auto.reached
+    ∙ c.mark_live-live.auto.marks)
+    (λ c. c.survey.auto.seen)
     (λ c. record { fits = λ e. let z : ◌≡◌ {A = ℕ} 0 1 = cc in absurd (omega arith) }))

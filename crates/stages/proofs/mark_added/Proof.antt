@@ -19,21 +19,21 @@ mark_added_spec =
     tie.close
     (tie.spec
     (λ c κs. search rules)
-    (λ c. added_constant _ _ _ _ (test_no c.before.is_row_lem.ensures c.if1.true))
-    (λ c κs. (test_yes c.before.before.is_row_lem.ensures c.before.if1.false))
-    (λ c κs. let l = added_in c.before.before.before.before.before.before.before.requires
-    (test_yes c.before.before.before.is_row_lem.ensures c.before.before.if1.false) c.row_of.ensures in
-    let z = c.before.before.before.before.before.before.before.requires.room in omega (arith, l, z))
+    (λ c. added_constant _ _ _ _ (test_no c.is_row.ensures c.if-not-is_row.true-raw))
+    (λ c κs. (test_yes c.is_row.ensures c.if-not-is_row.false-raw))
+    (λ c κs. let l = added_in c.requires
+    (test_yes c.is_row.ensures c.if-not-is_row.false-raw) c.row_of.ensures in
+    let z = c.requires.room in omega (arith, l, z))
     (λ c. search rules)
     (λ c. added_again _ _ _ _
-    (test_yes c.before.before.before.before.before.is_row_lem.ensures c.before.before.before.before.if1.false)
-    c.before.before.row_of.ensures (sym c.before.marked.ensures ∙ c.if2.true))
+    (test_yes c.is_row.ensures c.if-not-is_row.false-raw)
+    c.row_of.ensures (sym c.marked.ensures ∙ c.if-marked.true))
     (λ c κs. (
-      c.before.before.before.before.before.before.before.before.before.before.before.requires,
-      (test_yes c.before.before.before.before.before.before.before.is_row_lem.ensures
-          c.before.before.before.before.before.before.if1.false),
-      (still-off _ _ c.before.before.before.before.row_of.ensures c.before.before.before.marked.ensures
-          c.before.before.if2.false),
+      c.requires,
+      (test_yes c.is_row.ensures
+          c.if-not-is_row.false-raw),
+      (still-off _ _ c.row_of.ensures c.marked.ensures
+          c.if-marked.false),
     ))
     (λ c. search rules)
     (λ c. search rules)

@@ -12,8 +12,8 @@ no_size_spec =
     (λ c. search rules)
     (λ c κs. search rules)
     (λ c. search rules)
-    (λ c κs. test_yes c.before.is_row_lem.ensures c.if2.false)
-    (λ c κs. let l = c.before.before.before.before.before.requires.1
-    (test_yes c.before.before.is_row_lem.ensures c.before.if2.false) in
-    let e = c.row_of.ensures in let s = c.before.before.before.before.before.requires.0 in omega (arith, l, e, s))
+    (λ c κs. test_yes c.is_row.ensures c.if-not-is_row.false-raw)
+    (λ c κs. let l = c.requires.1
+    (test_yes c.is_row.ensures c.if-not-is_row.false-raw) in
+    let e = c.row_of.ensures in let s = c.requires.0 in omega (arith, l, e, s))
     (λ c. search rules))

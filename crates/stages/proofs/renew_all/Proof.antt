@@ -14,11 +14,11 @@ renew_all_spec =
     (λ c κs.
     record {
       ready =
-          c.before.before.before.before.requires.0;
+          c.requires.0;
       arrow =
-          c.before.before.before.before.requires.1;
+          c.requires.1;
       room =
-          let l = c.before.before.if1.true in let e = length-replicate {A = ℕ} 257 0 in omega (arith, l, e);
+          let l = c.if-rows-le-ROWS.true in let e = length-replicate {A = ℕ} 257 0 in omega (arith, l, e);
     })
     (λ c. search rules)
     (λ c. search rules)
@@ -26,11 +26,11 @@ renew_all_spec =
     (λ c κs.
     record {
       ready =
-          c.before.before.before.before.requires.0;
+          c.requires.0;
       arrow =
-          c.before.before.before.before.requires.1;
+          c.requires.1;
       room =
-          let l = c.before.before.before.before.requires.0.good.sizes.N-max in
+          let l = c.requires.0.good.sizes.N-max in
           let e = length-replicate {A = ℕ} 3751 0 in omega (arith, l, e);
     })
     (λ c. search rules)

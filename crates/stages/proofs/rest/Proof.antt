@@ -11,25 +11,25 @@ rest_spec =
     (tie.spec
     (λ c κs. search rules)
     (λ c κs.
-    (c.before.before.before.before.before.requires.1.base.size, row_within c.before.before.before.before.before.requires.0))
+    (c.requires.1.base.size, row_within c.requires.0))
     (λ c. search rules)
     (λ c. (
-      rest_idle c.before.before.before.before.before.before.before.requires.0,
-      c.before.before.before.before.before.before.before.requires.1,
+      rest_idle c.requires.0,
+      c.requires.1,
     ))
     (λ c κs. search rules)
     (λ c. search rules)
     (λ c κs. (
-      sizes-ask c.before.before.before.before.before.before.before.before.before.before.before.requires.0 _
-          c.before.before.before.third_of.ensures,
-      c.before.before.before.before.before.before.before.before.before.before.before.requires.1,
+      sizes-ask c.requires.0 _
+          c.third_of.ensures,
+      c.requires.1,
     ))
     (λ c. search rules)
     (λ c. search rules)
     (λ c. (
       rest_idle
-          c.before.before.before.before.before.before.before.before.before.before.before.before.before.before.before.requires.0,
-      c.before.before.before.sizes-within.ensures.counts,
+          c.requires.0,
+      c.sizes_within.ensures.counts,
     ))
     (λ c. search rules)
     (λ c κs. search rules)
@@ -37,50 +37,50 @@ rest_spec =
     (λ c. search rules)
     (λ c. (
       rest-none
-          c.before.before.before.before.before.before.before.before.before.before.before.before.before.before.before.before.before.before.before.before.requires.0 c.before.before.before.exists-odd.ensures.grown,
+          c.requires.0 c.exists_odd-c.ensures.grown,
       counts-grown
-          c.before.before.before.before.before.before.before.before.before.before.before.before.before.before.before.before.before.before.before.before.requires.0 c.before.before.before.exists-odd.ensures.grown
-          c.before.before.before.before.before.before.before.before.sizes-within.ensures.counts,
+          c.requires.0 c.exists_odd-c.ensures.grown
+          c.sizes_within.ensures.counts,
     ))
     (λ c κs. (
       pre-grown
-          c.before.before.before.before.before.before.before.before.before.before.before.before.before.before.before.before.before.before.before.before.before.before.requires.0 c.before.before.before.before.before.exists-odd.ensures.grown,
+          c.requires.0 c.exists_odd-c.ensures.grown,
       base-grown
-          c.before.before.before.before.before.before.before.before.before.before.before.before.before.before.before.before.before.before.before.before.before.before.requires.0 c.before.before.before.before.before.exists-odd.ensures.grown
-          c.before.before.before.before.before.before.before.before.before.before.sizes-within.ensures.counts.base,
+          c.requires.0 c.exists_odd-c.ensures.grown
+          c.sizes_within.ensures.counts.base,
     ))
     (λ c. search rules)
     (λ c. search rules)
     (λ c. (
-      rw (← c.before.before.before.before.before.before.before.before.before.before.before.before.before.before.before.before.before.before.before.before.before.before.lesser.ensures)
+      rw (← c.lesser-most.ensures)
           (rest_at
-          c.before.before.before.before.before.before.before.before.before.before.before.before.before.before.before.before.before.before.before.before.before.before.before.before.before.before.requires.0
-          c.before.before.before.before.before.before.before.before.before.exists-odd.ensures
-          c.before.before.before.before.before.before.if3.false c.before.before.before.sure.ensures c.if4.true),
+          c.requires.0
+          c.exists_odd-c.ensures
+          c.if-c.false c.sure.ensures c.if-sure.true),
       counts-grown
           (pre-grown
-          c.before.before.before.before.before.before.before.before.before.before.before.before.before.before.before.before.before.before.before.before.before.before.before.before.before.before.requires.0
-          c.before.before.before.before.before.before.before.before.before.exists-odd.ensures.grown)
-          c.before.before.before.sure.ensures.grown
+          c.requires.0
+          c.exists_odd-c.ensures.grown)
+          c.sure.ensures.grown
           (counts-grown
-          c.before.before.before.before.before.before.before.before.before.before.before.before.before.before.before.before.before.before.before.before.before.before.before.before.before.before.requires.0
-          c.before.before.before.before.before.before.before.before.before.exists-odd.ensures.grown
-          c.before.before.before.before.before.before.before.before.before.before.before.before.before.before.sizes-within.ensures.counts),
+          c.requires.0
+          c.exists_odd-c.ensures.grown
+          c.sizes_within.ensures.counts),
     ))
     (λ c. search rules)
     (λ c. search rules)
     (λ c. (
       rest-none
-          c.before.before.before.before.before.before.before.before.before.before.before.before.before.before.before.before.before.before.before.before.before.before.before.before.before.before.requires.0
-          (grown_trans c.before.before.before.before.before.before.before.before.before.exists-odd.ensures.grown
-          c.before.before.before.sure.ensures.grown),
+          c.requires.0
+          (grown_trans c.exists_odd-c.ensures.grown
+          c.sure.ensures.grown),
       counts-grown
           (pre-grown
-          c.before.before.before.before.before.before.before.before.before.before.before.before.before.before.before.before.before.before.before.before.before.before.before.before.before.before.requires.0
-          c.before.before.before.before.before.before.before.before.before.exists-odd.ensures.grown)
-          c.before.before.before.sure.ensures.grown
+          c.requires.0
+          c.exists_odd-c.ensures.grown)
+          c.sure.ensures.grown
           (counts-grown
-          c.before.before.before.before.before.before.before.before.before.before.before.before.before.before.before.before.before.before.before.before.before.before.before.before.before.before.requires.0
-          c.before.before.before.before.before.before.before.before.before.exists-odd.ensures.grown
-          c.before.before.before.before.before.before.before.before.before.before.before.before.before.before.sizes-within.ensures.counts),
+          c.requires.0
+          c.exists_odd-c.ensures.grown
+          c.sizes_within.ensures.counts),
     )))

@@ -14,9 +14,9 @@ sure_spec =
     (λ c. search rules)
     (λ c κs. search rules)
     (λ c. search rules)
-    (λ c. sure-yes c.before.before.before.before.before.before.before.requires.0 c.before.before.look.ensures
-    c.enum_told.given.1)
+    (λ c. sure-yes c.requires.0 c.look-looked.ensures
+    c.in-Fits.is)
     (λ c. search rules)
-    (λ c. sure-no c.before.before.before.before.before.before.before.requires.0)
+    (λ c. sure-no c.requires.0)
     (λ c. search rules)
     (λ c. search rules))

@@ -12,21 +12,21 @@ survey_spec =
     tie.close
     (tie.spec
     (λ c κs. search rules)
-    (λ c. λ e. survey_constant c.before.before.before.before.before.before.before.requires
-    (test_no c.before.is_row_lem.ensures c.if1.true))
-    (λ c κs. let l = survey_in c.before.before.before.before.before.before.before.before.requires in
-    let z = c.before.before.before.before.before.before.before.before.requires.seen-room in omega (arith, l, z))
+    (λ c. λ e. survey_constant c.requires
+    (test_no c.is_row.ensures c.if-not-is_row.true-raw))
+    (λ c κs. let l = survey_in c.requires in
+    let z = c.requires.seen-room in omega (arith, l, z))
     (λ c. search rules)
-    (λ c. λ e. survey_again c.before.before.before.before.before.before.before.before.before.before.requires
-    (sym c.before.marked.ensures ∙ c.if2.true))
+    (λ c. λ e. survey_again c.requires
+    (sym c.marked.ensures ∙ c.if-marked.true))
     (λ c κs. (
-      c.before.before.before.before.before.before.before.before.before.before.before.before.before.before.requires,
-      (test_yes c.before.before.before.before.before.before.before.before.is_row_lem.ensures
-          c.before.before.before.before.before.before.before.if1.false),
-      (sym c.before.before.before.before.before.marked.ensures ∙ c.before.before.before.before.if2.false),
+      c.requires,
+      (test_yes c.is_row.ensures
+          c.if-not-is_row.false-raw),
+      (sym c.marked.ensures ∙ c.if-marked.false),
     ))
     (λ c. search rules)
     (λ c. search rules)
     (λ c. search rules)
     (λ c. search rules)
-    (λ c. c.before.before.before.before.before.before.before.before.survey_row_lem.ensures))
+    (λ c. c.survey_row.ensures))

@@ -11,10 +11,10 @@ use Rattle.stages.proofs.total.Tie as tie
 use Rattle.stages.proofs.total.Reads as reads
 use Rattle.stages.proofs.total.Lts as lts
 
-abbrev invariant_loop : tie.invariant_loop
+abbrev invariant_loop : tie.invariant-loop-j
 invariant_loop counts k sum₀ j₀ sum j = (j ≤ k) × (sum ≡ sum_to (count_of counts) j)
 
-abbrev decreases_loop : tie.decreases_loop
+abbrev decreases_loop : tie.decreases-loop-j
 decreases_loop counts k sum₀ j₀ sum j = k - j
 
 pub total_spec : {M : Type 1} → statement M
@@ -26,15 +26,15 @@ total_spec =
     (λ c. (omega arith, sum-none (count_of c.args.counts.now)))
     (λ c. search rules)
     (λ c. search rules)
-    (λ c. let f = c.before.before.before.requires.1.few c.before.before.loop.j in omega (arith, f))
-    (λ c. let p = c.before.before.before.requires in
-    let v = c.before.before.loop.invariant in
-    let l = sum-le (count_of c.before.before.before.args.counts.now) MOST c.before.before.loop.j p.1.few in
-    let f = p.1.few c.before.before.loop.j in omega (arith, l, f, p.0, v.0, v.1))
+    (λ c. let f = c.requires.1.few c.loop-j.j in omega (arith, f))
+    (λ c. let p = c.requires in
+    let v = c.loop-j.invariant in
+    let l = sum-le (count_of c.args.counts.now) MOST c.loop-j.j p.1.few in
+    let f = p.1.few c.loop-j.j in omega (arith, l, f, p.0, v.0, v.1))
     (λ c. search rules)
     (λ c. search rules)
-    (λ c. let v = c.before.before.loop.invariant in
-    (omega arith, sum-next (count_of c.before.before.before.args.counts.now) c.before.before.loop.j v.1))
-    (λ c. let v = c.before.loop.invariant in
-    sum_done (count_of c.before.before.args.counts.now) c.before.loop.j c.before.before.args.k v.1 v.0
-    c.loop-test.false))
+    (λ c. let v = c.loop-j.invariant in
+    (omega arith, sum-next (count_of c.args.counts.now) c.loop-j.j v.1))
+    (λ c. let v = c.loop-j.invariant in
+    sum_done (count_of c.args.counts.now) c.loop-j.j c.args.k v.1 v.0
+    c.loop-j-test.false))

@@ -10,11 +10,11 @@ clean_spec =
     (tie.spec
     (λ c κs. search rules)
     (λ c. search rules)
-    (λ c κs. free-pre c.before.before.operands_of.ensures.0 c.before.before.operands_of.ensures.1
-    c.before.before.before.before.before.requires)
+    (λ c κs. free-pre c.operands_of-p.ensures.0 c.operands_of-p.ensures.1
+    c.requires)
     (λ c κs. search rules)
     (λ c. search rules)
-    (λ c. cleaned_by c.before.before.before.before.before.before.before.before.before.operands_of.ensures.0
-    c.before.before.before.before.before.before.before.before.before.operands_of.ensures.1
-    c.before.before.before.before.before.before.before.before.before.before.before.before.requires
-    c.before.before.before.before.before.before.free-rows.ensures c.before.before.forget.ensures))
+    (λ c. cleaned_by c.operands_of-p.ensures.0
+    c.operands_of-p.ensures.1
+    c.requires
+    c.free_rows.ensures c.forget.ensures))

@@ -10,36 +10,36 @@ run_step_spec =
     (tie.spec
     (λ c. search rules)
     (λ c κs. (
-      c.before.before.before.before.before.requires.0,
-      rw c.before.before.step.given.1 at c.before.before.before.before.before.requires.1,
+      c.requires.0,
+      rw c.in-Bit.is at c.requires.1,
     ))
     (λ c. search rules)
-    (λ c κs. c.before.before.before.before.before.requires.0)
+    (λ c κs. c.requires.0)
     (λ c. search rules)
     (λ c κs. search rules)
     (λ c. search rules)
-    (λ c κs. let f = rw c.before.before.step4.given.1 at c.before.before.before.before.before.requires.1 in
-    (c.before.before.before.before.before.requires.0, f.0, f.1))
+    (λ c κs. let f = rw c.in-And.is at c.requires.1 in
+    (c.requires.0, f.0, f.1))
     (λ c. search rules)
-    (λ c κs. let f = rw c.before.before.step5.given.1 at c.before.before.before.before.before.requires.1 in
-    (c.before.before.before.before.before.requires.0, f.0, f.1))
+    (λ c κs. let f = rw c.in-Or.is at c.requires.1 in
+    (c.requires.0, f.0, f.1))
     (λ c. search rules)
-    (λ c κs. let f = rw c.before.before.step6.given.1 at c.before.before.before.before.before.requires.1 in
-    (c.before.before.before.before.before.requires.0, f.0, f.1))
+    (λ c κs. let f = rw c.in-Shift.is at c.requires.1 in
+    (c.requires.0, f.0, f.1))
     (λ c. search rules)
-    (λ c κs. let f = rw c.before.before.step7.given.1 at c.before.before.before.before.before.requires.1 in
-    (c.before.before.before.before.before.requires.0, f.0, f.1))
+    (λ c κs. let f = rw c.in-Exists.is at c.requires.1 in
+    (c.requires.0, f.0, f.1))
     (λ c. search rules)
-    (λ c. rw c.before.before.before.before.before.step.given.1 c.before.before.bit.ensures)
+    (λ c. rw c.in-Bit.is c.bit.ensures)
     (λ c. search rules)
-    (λ c. rw c.before.before.before.before.before.step2.given.1 c.before.before.cube.ensures)
-    (λ c. let f = rw c.before.before.step3.given.1 at c.before.before.before.before.before.requires.1 in
-    rw c.before.before.step3.given.1 (not_worked _ c.before.before.before.before.before.requires.0 f c.flip.ensures))
+    (λ c. rw c.in-Cube.is c.cube.ensures)
+    (λ c. let f = rw c.in-Not.is at c.requires.1 in
+    rw c.in-Not.is (not_worked _ c.requires.0 f c.flip.ensures))
     (λ c. search rules)
-    (λ c. rw c.before.before.before.before.before.step4.given.1 c.before.before.and-of.ensures)
+    (λ c. rw c.in-And.is c.and_of.ensures)
     (λ c. search rules)
-    (λ c. rw c.before.before.before.before.before.step5.given.1 c.before.before.or-of.ensures)
+    (λ c. rw c.in-Or.is c.or_of.ensures)
     (λ c. search rules)
-    (λ c. rw c.before.before.before.before.before.step6.given.1 c.before.before.shift.ensures)
+    (λ c. rw c.in-Shift.is c.shift.ensures)
     (λ c. search rules)
-    (λ c. rw c.before.before.before.before.before.step7.given.1 c.before.before.exists.ensures))
+    (λ c. rw c.in-Exists.is c.exists.ensures))

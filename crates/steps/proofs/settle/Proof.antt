@@ -10,22 +10,22 @@ settle_spec =
     (tie.spec
     (λ c. search rules)
     (λ c. search rules)
-    (λ c. settle-full _ c.before.before.before.before.requires c.enum_told.given.1)
+    (λ c. settle-full _ c.requires c.in_default.is)
     (λ c κs. search rules)
     (λ c. search rules)
-    (λ c. settle-few _ c.before.before.before.before.before.before.before.before.requires
-    c.before.before.before.before.made.given.1 c.before.header-word.ensures c.if1.true)
-    (λ c κs. settle-clean c.before.before.before.before.before.before.before.before.before.args.limit
-    c.before.before.before.before.before.before.before.before.before.requires
-    c.before.before.before.before.before.made.given.1)
+    (λ c. settle-few _ c.requires
+    c.in-At.is c.header_word.ensures c.if-header_word-limit.true)
+    (λ c κs. settle-clean c.args.limit
+    c.requires
+    c.in-At.is)
     (λ c κs. search rules)
     (λ c. search rules)
     (λ c. settle_reached _
-    c.before.before.before.before.before.before.before.before.before.before.before.before.before.before.before.requires
-    c.before.before.before.before.before.before.before.before.before.before.before.made.given.1
-    c.before.before.before.before.before.clean.ensures c.before.header-word2.ensures c.if2.true)
+    c.requires
+    c.in-At.is
+    c.clean.ensures c.header_word-2.ensures c.if-header_word-limit-2.true)
     (λ c. search rules)
     (λ c. settle-many _
-    c.before.before.before.before.before.before.before.before.before.before.before.before.before.before.before.requires
-    c.before.before.before.before.before.before.before.before.before.before.before.made.given.1
-    c.before.before.before.before.before.clean.ensures c.before.header-word2.ensures c.if2.false))
+    c.requires
+    c.in-At.is
+    c.clean.ensures c.header_word-2.ensures c.if-header_word-limit-2.false))

@@ -7,4 +7,4 @@ pub try_step_spec : {M : Type 1} → statement M
 try_step_spec =
     tie.close
     (tie.spec (λ c κs. search rules) (λ c κs. search rules) (λ c. search rules)
-    (λ c. rw c.made_of.ensures c.before.before.before.run_step.ensures))
+    (λ c. rw c.made_of.ensures c.run_step.ensures))

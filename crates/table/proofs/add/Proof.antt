@@ -12,31 +12,31 @@ add_spec =
     (tie.spec
     (λ c κs. search rules)
     (λ c. search rules)
-    (λ c. add-full (view c.before.before.before.before.args.rows c.before.before.before.before.args.words.now) _ _ _ _
-    c.before.before.before.before.requires _ c.before.unused-row.ensures c.if1.true)
+    (λ c. add-full (view c.args.rows c.args.words.now) _ _ _ _
+    c.requires _ c.unused_row-i.ensures c.if-i-rows.true)
     (λ c. search rules)
     (λ c κs. search rules)
     (λ c κs. search rules)
     (λ c κs. let p =
     append-pre
-    (view c.before.before.before.before.before.before.before.before.before.before.before.before.before.args.rows
-    c.before.before.before.before.before.before.before.before.before.before.before.before.before.args.words.now) _ _ _
-    _ c.before.before.before.before.before.before.before.before.before.before.before.before.before.requires.pre.make.good
-    c.before.before.before.before.before.before.before.before.before.if1.false
-    (c.before.before.before.before.before.before.before.before.before.before.unused-row.ensures.free
-    c.before.before.before.before.before.before.before.before.before.if1.false)
-    c.before.before.before.before.before.before.before.put_header_lem.ensures c.before.before.before.write-row.ensures in
-    (c.before.before.before.before.before.before.before.before.before.if1.false, p.0, p.1))
+    (view c.args.rows
+    c.args.words.now) _ _ _
+    _ c.requires.pre.make.good
+    c.if-i-rows.false
+    (c.unused_row-i.ensures.free
+    c.if-i-rows.false)
+    c.put_header.ensures c.write_row.ensures in
+    (c.if-i-rows.false, p.0, p.1))
     (λ c κs. search rules)
     (λ c. search rules)
     (λ c. rw c.arrow_of.ensures
     (add_at
-    (view c.before.before.before.before.before.before.before.before.before.before.before.before.before.before.before.before.before.args.rows
-    c.before.before.before.before.before.before.before.before.before.before.before.before.before.before.before.before.before.args.words.now) _ _ _ _
-    c.before.before.before.before.before.before.before.before.before.before.before.before.before.before.before.before.before.requires _
-    c.before.before.before.before.before.before.before.before.before.before.before.before.before.before.unused-row.ensures c.before.before.before.before.before.before.before.before.before.before.before.before.before.if1.false
+    (view c.args.rows
+    c.args.words.now) _ _ _ _
+    c.requires _
+    c.unused_row-i.ensures c.if-i-rows.false
     (added-by
-    (view c.before.before.before.before.before.before.before.before.before.before.before.before.before.before.before.before.before.args.rows
-    c.before.before.before.before.before.before.before.before.before.before.before.before.before.before.before.before.before.args.words.now) _ _ _ _
-    c.before.before.before.before.before.before.before.before.before.before.before.put_header_lem.ensures
-    c.before.before.before.before.before.before.before.write-row.ensures c.before.before.before.append.ensures))))
+    (view c.args.rows
+    c.args.words.now) _ _ _ _
+    c.put_header.ensures
+    c.write_row.ensures c.append.ensures))))

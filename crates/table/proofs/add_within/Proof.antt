@@ -10,6 +10,6 @@ pub add_within_spec : {M : Type 1} → statement M
 add_within_spec =
     tie.close
     (tie.spec (λ c κs. search rules) (λ c. search rules)
-    (λ c. add-over (view c.before.before.before.before.args.rows c.before.before.before.before.args.words.now) _ _ _ _
-    c.before.before.before.before.requires (let e = c.before.header-word.ensures in let t = c.if1.true in omega arith))
+    (λ c. add-over (view c.args.rows c.args.words.now) _ _ _ _
+    c.requires (let e = c.header_word-used.ensures in let t = c.if-used-limit.true in omega arith))
     (λ c κs. search rules) (λ c. search rules) (λ c. search rules))

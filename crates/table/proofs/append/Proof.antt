@@ -18,33 +18,33 @@ append_spec =
     (λ c κs. search rules)
     (λ c κs. search rules)
     (λ c. let p =
-    c.before.before.before.before.before.before.before.before.before.before.before.before.before.before.before.before.before.before.before.before.requires in omega arith)
+    c.requires in omega arith)
     (λ c κs. let p =
-    c.before.before.before.before.before.before.before.before.before.before.before.before.before.before.before.before.before.before.before.before.requires in let b =
-    c.before.before.before.before.before.before.before.before.before.before.before.before.before.before.before.before.before.row-bucket.ensures.1 in let x =
-    c.before.before.before.put-listed.auto.0 in let y =
-    c.before.before.before.before.before.before.before.put2.auto.0 in let z =
-    c.before.before.before.before.before.before.before.before.before.before.before.put.auto.0 in omega arith)
+    c.requires in let b =
+    c.row_bucket-b.ensures.1 in let x =
+    c.put_listed.auto.words in let y =
+    c.put-2.auto.words in let z =
+    c.put.auto.words in omega arith)
     (λ c. let p =
-    c.before.before.before.before.before.before.before.before.before.before.before.before.before.before.before.before.before.before.before.before.before.before.before.before.requires in let e =
-    c.before.before.before.before.before.before.before.before.before.before.before.before.before.before.before.before.before.header-word.ensures in omega arith)
+    c.requires in let e =
+    c.header_word-used.ensures in omega arith)
     (λ c κs. let p =
-    c.before.before.before.before.before.before.before.before.before.before.before.before.before.before.before.before.before.before.before.before.before.before.before.before.requires in let w =
-    c.before.before.before.put_head_lem.auto.0 in let x =
-    c.before.before.before.before.before.before.before.put-listed.auto.0 in let y =
-    c.before.before.before.before.before.before.before.before.before.before.before.put2.auto.0 in let z =
-    c.before.before.before.before.before.before.before.before.before.before.before.before.before.before.before.put.auto.0 in omega arith)
-    (λ c. c.before.before.put_header_lem.auto.0 ∙ c.before.before.before.before.before.before.put_head_lem.auto.0
-    ∙ c.before.before.before.before.before.before.before.before.before.before.put-listed.auto.0
-    ∙ c.before.before.before.before.before.before.before.before.before.before.before.before.before.before.put2.auto.0
-    ∙ c.before.before.before.before.before.before.before.before.before.before.before.before.before.before.before.before.before.before.put.auto.0)
+    c.requires in let w =
+    c.put_head.auto.words in let x =
+    c.put_listed.auto.words in let y =
+    c.put-2.auto.words in let z =
+    c.put.auto.words in omega arith)
+    (λ c. c.put_header.auto.words ∙ c.put_head.auto.words
+    ∙ c.put_listed.auto.words
+    ∙ c.put-2.auto.words
+    ∙ c.put.auto.words)
     (λ c. append-by
-    (view c.before.before.before.before.before.before.before.before.before.before.before.before.before.before.before.before.before.before.before.before.before.before.before.before.before.before.before.args.rows
-    c.before.before.before.before.before.before.before.before.before.before.before.before.before.before.before.before.before.before.before.before.before.before.before.before.before.before.before.args.words.now) _
-    c.before.before.before.before.before.before.before.before.before.before.before.before.before.before.before.before.before.before.before.before.before.before.before.before.row-bucket.ensures.0
-    c.before.before.before.before.before.before.before.before.before.before.before.before.before.before.before.before.before.before.before.before.before.before.first.ensures
-    c.before.before.before.before.before.before.before.before.before.before.before.before.before.before.before.before.before.before.before.before.header-word.ensures
-    c.before.before.before.before.before.before.before.before.before.before.before.before.before.before.before.before.before.before.put.ensures
-    c.before.before.before.before.before.before.before.before.before.before.before.before.before.before.put2.ensures
-    c.before.before.before.before.before.before.before.before.before.before.put-listed.ensures
-    c.before.before.before.before.before.before.put_head_lem.ensures c.before.before.put_header_lem.ensures))
+    (view c.args.rows
+    c.args.words.now) _
+    c.row_bucket-b.ensures.0
+    c.first-next.ensures
+    c.header_word-used.ensures
+    c.put.ensures
+    c.put-2.ensures
+    c.put_listed.ensures
+    c.put_head.ensures c.put_header.ensures))

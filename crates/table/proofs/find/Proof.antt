@@ -13,10 +13,10 @@ use Rattle.table.proofs.FindLaws.{Ahead, find-start, good-room}
 use Rattle.table.proofs.find.Statement.{statement}
 use Rattle.table.proofs.find.Tie as tie
 
-abbrev invariant_loop : tie.invariant_loop
+abbrev invariant_loop : tie.invariant-loop-p
 invariant_loop words rows level low high p₀ p = Link (used (view rows words)) p × Ahead (view rows words) level low high p
 
-abbrev decreases_loop : tie.decreases_loop
+abbrev decreases_loop : tie.decreases-loop-p
 decreases_loop words rows level low high p₀ p = height (view rows words) p
 
 pub find_spec : {M : Type 1} → statement M
@@ -25,67 +25,67 @@ find_spec =
     (tie.spec
     invariant_loop
     decreases_loop
-    (λ c κs. let z = c.before.requires.sizes in omega arith)
-    (λ c κs. (c.bucket-of.ensures.1, good-room _ c.before.before.requires))
-    (λ c. rw (c.first.ensures, c.before.bucket-of.ensures.0) (
+    (λ c κs. let z = c.requires.sizes in omega arith)
+    (λ c κs. (c.bucket_of.ensures.1, good-room _ c.requires))
+    (λ c. rw (c.first-p.ensures, c.bucket_of.ensures.0) (
       live_link _ _,
-      find-start (view c.before.before.before.args.rows c.before.before.before.args.words.now) _ _ _
-          c.before.before.before.requires.index,
+      find-start (view c.args.rows c.args.words.now) _ _ _
+          c.requires.index,
     ))
     (λ c. omega arith)
     (λ c κs. let u =
     used_row
-    (view c.before.before.before.before.before.args.rows c.before.before.before.before.before.args.words.now) _
+    (view c.args.rows c.args.words.now) _
     (link_used
-    (view c.before.before.before.before.before.args.rows c.before.before.before.before.before.args.words.now) _
-    c.loop-test.true c.before.loop.invariant.0) in let z = c.before.before.before.before.before.requires.sizes in omega arith)
+    (view c.args.rows c.args.words.now) _
+    c.loop-p-test.true c.loop-p.invariant.0) in let z = c.requires.sizes in omega arith)
     (λ c. (
       link_used
-          (view c.before.before.before.before.before.before.before.args.rows
-          c.before.before.before.before.before.before.before.args.words.now) _ c.before.before.loop-test.true
-          c.before.before.before.loop.invariant.0,
-      says-yes c.if1.true c.before.same_row.ensures,
+          (view c.args.rows
+          c.args.words.now) _ c.loop-p-test.true
+          c.loop-p.invariant.0,
+      says-yes c.if-same_row.true c.same_row.ensures,
     ))
     (λ c κs. let u =
     used_row
-    (view c.before.before.before.before.before.before.before.args.rows
-    c.before.before.before.before.before.before.before.args.words.now) _
+    (view c.args.rows
+    c.args.words.now) _
     (link_used
-    (view c.before.before.before.before.before.before.before.args.rows
-    c.before.before.before.before.before.before.before.args.words.now) _ c.before.before.loop-test.true
-    c.before.before.before.loop.invariant.0) in
-    let z = c.before.before.before.before.before.before.before.requires.sizes in omega arith)
-    (λ c. rw c.get.ensures
+    (view c.args.rows
+    c.args.words.now) _ c.loop-p-test.true
+    c.loop-p.invariant.0) in
+    let z = c.requires.sizes in omega arith)
+    (λ c. rw c.get-p.ensures
     (height-falls
-    (view c.before.before.before.before.before.before.before.before.args.rows
-    c.before.before.before.before.before.before.before.before.args.words.now) c.before.before.before.before.loop.p
-    ((view c.before.before.before.before.before.before.before.before.args.rows
-    c.before.before.before.before.before.before.before.before.args.words.now).cell
-    (c.before.before.before.before.loop.p - 1) NEXT) c.before.before.before.loop-test.true
-    (c.before.before.before.before.before.before.before.before.requires.index.nexts
-    (c.before.before.before.before.loop.p - 1)
+    (view c.args.rows
+    c.args.words.now) c.loop-p.p
+    ((view c.args.rows
+    c.args.words.now).cell
+    (c.loop-p.p - 1) NEXT) c.loop-p-test.true
+    (c.requires.index.nexts
+    (c.loop-p.p - 1)
     (link_used
-    (view c.before.before.before.before.before.before.before.before.args.rows
-    c.before.before.before.before.before.before.before.before.args.words.now) _
-    c.before.before.before.loop-test.true c.before.before.before.before.loop.invariant.0))))
-    (λ c. let n = c.before.before.before.loop-test.true in
-    let v = c.before.before.before.before.loop.invariant in
-    let h = says-no c.before.if1.false c.before.before.same_row.ensures in
-    rw c.get.ensures (
+    (view c.args.rows
+    c.args.words.now) _
+    c.loop-p-test.true c.loop-p.invariant.0))))
+    (λ c. let n = c.loop-p-test.true in
+    let v = c.loop-p.invariant in
+    let h = says-no c.if-same_row.false c.same_row.ensures in
+    rw c.get-p.ensures (
       down_link
-          (view c.before.before.before.before.before.before.before.before.args.rows
-          c.before.before.before.before.before.before.before.before.args.words.now)
-          ((view c.before.before.before.before.before.before.before.before.args.rows
-          c.before.before.before.before.before.before.before.before.args.words.now).cell
-          (c.before.before.before.before.loop.p - 1) RANK)
-          ((view c.before.before.before.before.before.before.before.before.args.rows
-          c.before.before.before.before.before.before.before.before.args.words.now).cell
-          (c.before.before.before.before.loop.p - 1) NEXT)
-          (c.before.before.before.before.before.before.before.before.requires.index.nexts
-          (c.before.before.before.before.loop.p - 1)
+          (view c.args.rows
+          c.args.words.now)
+          ((view c.args.rows
+          c.args.words.now).cell
+          (c.loop-p.p - 1) RANK)
+          ((view c.args.rows
+          c.args.words.now).cell
+          (c.loop-p.p - 1) NEXT)
+          (c.requires.index.nexts
+          (c.loop-p.p - 1)
           (link_used
-          (view c.before.before.before.before.before.before.before.before.args.rows
-          c.before.before.before.before.before.before.before.before.args.words.now) _ n v.0)),
+          (view c.args.rows
+          c.args.words.now) _ n v.0)),
       (λ i u s. hit_skip n h (v.1 i u s)),
     ))
-    (λ c. λ j u h. hit_zero (c.before.loop.invariant.1 j u h) c.loop-test.false))
+    (λ c. λ j u h. hit_zero (c.loop-p.invariant.1 j u h) c.loop-p-test.false))

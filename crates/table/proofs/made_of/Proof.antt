@@ -5,4 +5,4 @@ use Rattle.table.proofs.made_of.Statement.{statement}
 use Rattle.table.proofs.made_of.Tie as tie
 
 pub made_of_spec : {M : Type 1} → statement M
-made_of_spec = tie.close (tie.spec (λ c. sym (code_is _ c.if1.true)) (λ c. sym (code_at _ c.if1.false)))
+made_of_spec = tie.close (tie.spec (λ c. sym (code_is _ c.if-code-eq-FULL.true)) (λ c. sym (code_at _ c.if-code-eq-FULL.false)))

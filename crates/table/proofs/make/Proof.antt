@@ -13,36 +13,36 @@ make_spec =
     (λ c κs. search rules)
     (λ c κs.
     record {
-      make = c.before.before.before.before.requires;
-      plain = test_no c.before.before.is-marked.ensures c.before.if1.true;
+      make = c.requires;
+      plain = test_no c.is_marked.ensures c.if-not-is_marked.true-raw;
     })
     (λ c. search rules)
     (λ c. make-as_is
-    (test_no c.before.before.before.before.before.is-marked.ensures c.before.before.before.before.if1.true)
-    c.before.before.make-plain.ensures)
+    (test_no c.is_marked.ensures c.if-not-is_marked.true-raw)
+    c.make_plain.ensures)
     (λ c κs. search rules)
     (λ c κs. search rules)
     (λ c κs. turned-pre
-    (view c.before.before.before.before.before.before.args.rows
-    c.before.before.before.before.before.before.args.words.now) _ _ _ _
-    c.before.before.before.before.before.before.requires
-    (test_yes c.before.before.before.before.is-marked.ensures c.before.before.before.if1.false) c.before.flip.ensures
-    c.flip2.ensures)
+    (view c.args.rows
+    c.args.words.now) _ _ _ _
+    c.requires
+    (test_yes c.is_marked.ensures c.if-not-is_marked.false-raw) c.flip.ensures
+    c.flip-2.ensures)
     (λ c. search rules)
     (λ c. turned-full
-    (view c.before.before.before.before.before.before.before.before.before.before.args.rows
-    c.before.before.before.before.before.before.before.before.before.before.args.words.now) _ _ _ _
-    c.before.before.before.before.before.before.before.before.before.before.requires
-    (test_yes c.before.before.before.before.before.before.before.before.is-marked.ensures
-    c.before.before.before.before.before.before.before.if1.false) c.before.before.before.before.before.flip.ensures
-    c.before.before.before.before.flip2.ensures c.before.before.before.make-plain2.ensures c.if2.true)
+    (view c.args.rows
+    c.args.words.now) _ _ _ _
+    c.requires
+    (test_yes c.is_marked.ensures
+    c.if-not-is_marked.false-raw) c.flip.ensures
+    c.flip-2.ensures c.make_plain-made.ensures c.if-made.true)
     (λ c κs. search rules)
     (λ c. search rules)
     (λ c. turned-at
-    (view c.before.before.before.before.before.before.before.before.before.before.before.args.rows
-    c.before.before.before.before.before.before.before.before.before.before.before.args.words.now) _ _ _ _
-    c.before.before.before.before.before.before.before.before.before.before.before.requires
-    (test_yes c.before.before.before.before.before.before.before.before.before.is-marked.ensures
-    c.before.before.before.before.before.before.before.before.if1.false)
-    c.before.before.before.before.before.before.flip.ensures c.before.before.before.before.before.flip2.ensures
-    c.before.before.before.before.make-plain2.ensures c.before.if2.false c.flip3.ensures))
+    (view c.args.rows
+    c.args.words.now) _ _ _ _
+    c.requires
+    (test_yes c.is_marked.ensures
+    c.if-not-is_marked.false-raw)
+    c.flip.ensures c.flip-2.ensures
+    c.make_plain-made.ensures c.if-made.false c.flip-3.ensures))

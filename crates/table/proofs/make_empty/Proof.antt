@@ -14,7 +14,7 @@ make_empty_spec =
     (λ c κs. search rules)
     (λ c. search rules)
     (λ c. emptied-by
-    (view c.before.before.before.before.before.before.before.before.before.before.before.args.rows
-    c.before.before.before.before.before.before.before.before.before.before.before.args.words.now) _ _
-    c.before.before.before.before.before.before.before.before.empty-heads.ensures
-    c.before.before.before.before.before.header.ensures c.before.before.write-header.ensures))
+    (view c.args.rows
+    c.args.words.now) _ _
+    c.empty_heads.ensures
+    c.header-header.ensures c.write_header.ensures))

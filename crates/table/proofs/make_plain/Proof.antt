@@ -10,26 +10,26 @@ pub make_plain_spec : {M : Type 1} → statement M
 make_plain_spec =
     tie.close
     (tie.spec
-    (λ c. make_same (view c.before.before.args.rows c.before.before.args.words.now) _ _ _ _ c.before.before.requires
-    c.if1.true)
+    (λ c. make_same (view c.args.rows c.args.words.now) _ _ _ _ c.requires
+    c.if-low-high.true)
     (λ c κs. search rules)
     (λ c. search rules)
-    (λ c κs. let p = rw c.before.found.given.1 at c.before.before.before.find.ensures in
-    let g = c.before.before.before.before.before.before.before.requires.make.good in
+    (λ c κs. let p = rw c.in-At.is at c.find-found.ensures in
+    let g = c.requires.make.good in
     let h = g.rows.bounded _ p.0 in let s = g.sizes in omega arith)
     (λ c. search rules)
     (λ c κs.
     record {
-      pre = c.before.before.before.before.before.before.before.requires;
-      differ = c.before.before.before.before.before.if1.false;
-      absent = rw c.before.enum_told.given.1 at c.before.before.before.find.ensures;
+      pre = c.requires;
+      differ = c.if-low-high.false;
+      absent = rw c.in-Nothing.is at c.find-found.ensures;
     })
     (λ c. search rules)
     (λ c. rw c.arrow_of.ensures
     (make-found
-    (view c.before.before.before.before.before.before.before.before.args.rows
-    c.before.before.before.before.before.before.before.before.args.words.now) _ _ _ _
-    c.before.before.before.before.before.before.before.before.requires _
-    (rw c.before.before.found.given.1 at c.before.before.before.before.find.ensures)))
+    (view c.args.rows
+    c.args.words.now) _ _ _ _
+    c.requires _
+    (rw c.in-At.is at c.find-found.ensures)))
     (λ c. search rules)
     (λ c. search rules))

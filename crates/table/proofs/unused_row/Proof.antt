@@ -11,18 +11,18 @@ unused_row_spec =
     (tie.spec
     (λ c κs. search rules)
     (λ c κs. search rules)
-    (λ c. unused-all (view c.before.before.before.before.args.rows c.before.before.before.before.args.words.now)
-    c.free-row.ensures)
+    (λ c. unused-all (view c.args.rows c.args.words.now)
+    c.free_row.ensures)
     (λ c κs. search rules)
     (λ c. unused-after
-    (view c.before.before.before.before.before.args.rows c.before.before.before.before.before.args.words.now)
-    c.before.free-row2.ensures c.if2.true)
+    (view c.args.rows c.args.words.now)
+    c.free_row-i.ensures c.if-i-rows.true)
     (λ c κs. search rules)
     (λ c. unused-before
-    (view c.before.before.before.before.before.before.before.args.rows
-    c.before.before.before.before.before.before.before.args.words.now) c.before.before.before.before.if1.false
-    c.before.free-row3.ensures c.if3.true)
+    (view c.args.rows
+    c.args.words.now) c.if-cursor-rows.false
+    c.free_row-j.ensures c.if-j-cursor.true)
     (λ c. unused-none
-    (view c.before.before.before.before.before.before.before.args.rows
-    c.before.before.before.before.before.before.before.args.words.now) c.before.before.before.free-row2.ensures
-    c.before.before.if2.false c.before.free-row3.ensures c.if3.false))
+    (view c.args.rows
+    c.args.words.now) c.free_row-i.ensures
+    c.if-i-rows.false c.free_row-j.ensures c.if-j-cursor.false))

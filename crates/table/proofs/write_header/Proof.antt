@@ -10,11 +10,11 @@ use Rattle.table.proofs.Fresh.{HeaderBelow, header-none, header-more, header-all
 use Rattle.table.proofs.write_header.Statement.{statement}
 use Rattle.table.proofs.write_header.Tie as tie
 
-abbrev invariant_loop : tie.invariant_loop
+abbrev invariant_loop : tie.invariant-loop-h
 invariant_loop words₀ rows header h₀ words h =
     (h ≤ HEADER) × (length words ≡ length words₀) × HeaderBelow (view rows words₀) (view rows words) header h
 
-abbrev decreases_loop : tie.decreases_loop
+abbrev decreases_loop : tie.decreases-loop-h
 decreases_loop words₀ rows header h₀ words h = HEADER - h
 
 pub write_header_spec : {M : Type 1} → statement M
@@ -26,12 +26,12 @@ write_header_spec =
     (λ c. (omega arith, refl, header-none _ _))
     (λ c. search rules)
     (λ c. search rules)
-    (λ c κs. let p = c.before.before.before.before.before.requires in
-    let v = c.before.before.before.loop.invariant.1 in let t = c.before.before.loop-test.true in omega arith)
-    (λ c. let t = c.before.before.before.before.before.loop-test.true in omega arith)
-    (λ c. let t = c.before.before.before.before.before.loop-test.true in omega arith)
-    (λ c. let t = c.before.before.before.before.before.loop-test.true in
-    let v = c.before.before.before.before.before.before.loop.invariant in
-    (omega arith, c.before.before.put_header_lem.auto.0 ∙ v.1, header-more _ t v.2 c.before.before.put_header_lem.ensures))
-    (λ c. c.before.loop.invariant.1)
-    (λ c. let e : c.before.loop.h ≡ HEADER = omega arith in header-all _ _ _ _ (rw e at c.before.loop.invariant.2)))
+    (λ c κs. let p = c.requires in
+    let v = c.loop-h.invariant.1 in let t = c.loop-h-test.true in omega arith)
+    (λ c. let t = c.loop-h-test.true in omega arith)
+    (λ c. let t = c.loop-h-test.true in omega arith)
+    (λ c. let t = c.loop-h-test.true in
+    let v = c.loop-h.invariant in
+    (omega arith, c.put_header.auto.words ∙ v.1, header-more _ t v.2 c.put_header.ensures))
+    (λ c. c.loop-h.invariant.1)
+    (λ c. let e : c.loop-h.h ≡ HEADER = omega arith in header-all _ _ _ _ (rw e at c.loop-h.invariant.2)))

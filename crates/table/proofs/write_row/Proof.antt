@@ -14,6 +14,6 @@ write_row_spec =
     (λ c κs. search rules)
     (λ c. search rules)
     (λ c. put-by _ _ _ _ _
-    c.before.before.before.before.before.before.before.before.before.before.before.before.before.before.put.ensures
-    c.before.before.before.before.before.before.before.before.before.before.put2.ensures
-    c.before.before.before.before.before.before.put3.ensures c.before.before.put4.ensures))
+    c.put.ensures
+    c.put-2.ensures
+    c.put-3.ensures c.put-4.ensures))

@@ -9,7 +9,7 @@ grammar_of_spec =
     tie.close
     (tie.spec
     (λ c κs. tt)
-    (λ c. c.first_of.ensures ∙ sym (grammar_first c.before.before.args.kind _ c.before.if1.true))
+    (λ c. c.first_of.ensures ∙ sym (grammar_first c.args.kind _ c.if-version-eq-VERSION.true))
     (λ c κs. tt)
-    (λ c. c.second-of.ensures ∙ sym (grammar_second c.before.before.before.args.kind _ c.before.if2.true))
-    (λ c. sym (grammar_unknown c.before.before.args.kind _ c.before.if1.false c.if2.false)))
+    (λ c. c.second_of.ensures ∙ sym (grammar_second c.args.kind _ c.if-version-eq-RUNS_VERSION.true))
+    (λ c. sym (grammar_unknown c.args.kind _ c.if-version-eq-VERSION.false c.if-version-eq-RUNS_VERSION.false)))

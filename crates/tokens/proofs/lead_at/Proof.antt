@@ -11,19 +11,19 @@ lead_at_spec =
     (tie.spec
     (λ c. search rules)
     (λ c κs. tt)
-    (λ c. c.match.keys1)
-    (λ c. c.match.keys2)
+    (λ c. c.in-Is-1.keys1)
+    (λ c. c.in_default-1.keys2)
     (λ c. sym
-    (lead_bad _ _ _ _ c.before.before.before.before.if1.true
-    (sym c.before.before.token-of.ensures ∙ c.enum_told.given.1)))
+    (lead_bad _ _ _ _ c.if-at-bytes.true
+    (sym c.token_of.ensures ∙ c.in_default.is)))
     (λ c κs. tt)
     (λ c. sym
-    (lead_is _ _ _ _ _ c.before.before.before.before.before.before.before.if1.true
-    (sym c.before.before.before.before.before.token-of.ensures ∙ c.before.before.before.t.given.1)
-    (sym c.before.token-allowed.ensures ∙ c.if2.true)))
+    (lead_is _ _ _ _ _ c.if-at-bytes.true
+    (sym c.token_of.ensures ∙ c.in-Is.is)
+    (sym c.token_allowed.ensures ∙ c.if-token_allowed.true)))
     (λ c. sym
-    (lead_refused _ _ _ _ c.before.before.before.t.given.0.0
-    c.before.before.before.before.before.before.before.if1.true
-    (sym c.before.before.before.before.before.token-of.ensures ∙ c.before.before.before.t.given.1)
-    (sym c.before.token-allowed.ensures ∙ c.if2.false)))
-    (λ c. sym (lead_past _ _ _ _ c.if1.false)))
+    (lead_refused _ _ _ _ c.in-Is.t
+    c.if-at-bytes.true
+    (sym c.token_of.ensures ∙ c.in-Is.is)
+    (sym c.token_allowed.ensures ∙ c.if-token_allowed.false)))
+    (λ c. sym (lead_past _ _ _ _ c.if-at-bytes.false)))

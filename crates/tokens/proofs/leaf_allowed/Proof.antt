@@ -10,20 +10,20 @@ pub leaf_allowed_spec : {M : Type 1} → statement M
 leaf_allowed_spec =
     tie.close
     (tie.spec
-    (λ c. c.match.keys1)
-    (λ c. c.match.keys2)
-    (λ c. c.match.keys3)
-    (λ c. c.match.keys4)
+    (λ c. c.in-False-1.keys1)
+    (λ c. c.in-True-1.keys2)
+    (λ c. c.in-Now-1.keys3)
+    (λ c. c.in-Next-1.keys4)
     (λ c κs. tt)
     (λ c. search rules)
-    (λ c. c.match.keys5)
+    (λ c. c.in-Var-1.keys5)
     (λ c κs. tt)
-    (λ c. c.match.keys6)
+    (λ c. c.in-Reg-1.keys6)
     (λ c κs. tt)
     (λ c. search rules)
     (λ c. search rules)
-    (λ c. rw c.before.l.given.1)
-    (λ c. let e : only_now c.before.before.before.before.before.args.grammar ≡ false = cc in
-    rw (c.before.before.before.l2.given.1, e))
+    (λ c. rw c.in-Now.is)
+    (λ c. let e : only_now c.args.grammar ≡ false = cc in
+    rw (c.in-Next.is, e))
     (λ c. search rules)
     (λ c. search rules))

@@ -13,4 +13,4 @@ modal_of_spec =
     (λ c. search rules)
     (λ c. search rules)
     (λ c. search rules)
-    (λ c. rw c.before.wide.ensures (sym (modal-token _ c.before.before.requires.0 c.before.before.requires.1))))
+    (λ c. rw c.wide-byte.ensures (sym (modal-token _ c.requires.0 c.requires.1))))

@@ -6,5 +6,5 @@ use Rattle.tokens.proofs.second_of.Tie as tie
 pub second_of_spec : {M : Type 1} → statement M
 second_of_spec =
     tie.close
-    (tie.spec (λ c. search rules) (λ c. search rules) (λ c. search rules) (λ c. rw c.enum_told.given.1)
-    (λ c. rw c.enum-told2.given.1) (λ c. rw c.enum-told3.given.1))
+    (tie.spec (λ c. search rules) (λ c. search rules) (λ c. search rules) (λ c. rw c.in-Relation.is)
+    (λ c. rw c.in-Set.is) (λ c. rw c.in-Valid.is))

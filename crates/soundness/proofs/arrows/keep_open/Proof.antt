@@ -10,5 +10,5 @@ use Rattle.soundness.proofs.arrows.known.Reads as known-reads
 pub keep_open_spec : {M : Type 1} → statement M
 keep_open_spec =
     tie.close
-    (tie.spec (λ c κs. search rules) (λ c. left_out (c.before.known.ensures c.if1.true)) (λ c. search rules)
+    (tie.spec (λ c κs. search rules) (λ c. left_out (c.known.ensures c.if-known.true)) (λ c. search rules)
     (λ c. search rules) (λ c. search rules) (λ c. search rules) (λ c. put))

@@ -11,5 +11,5 @@ use Rattle.soundness.proofs.arrows.seen.Reads as seen-reads
 pub known_spec : {M : Type 1} → statement M
 known_spec =
     tie.close
-    (tie.spec (λ c κs. search rules) (λ c. λ e. inl (c.before.opposite.ensures c.if1.true)) (λ c κs. search rules)
+    (tie.spec (λ c κs. search rules) (λ c. λ e. inl (c.opposite.ensures c.if-opposite.true)) (λ c κs. search rules)
     (λ c. λ e. inr (c.seen.ensures e)))

@@ -12,13 +12,13 @@ pub push_spec : {M : Type 1} → statement M
 push_spec =
     tie.close
     (tie.spec
-    (λ c. pushed_not _ (λ n. absurd (n c.if1.true)))
+    (λ c. pushed_not _ (λ n. absurd (n c.if-a-eq-NOTHING.true)))
     (λ c κs. search rules)
     (λ c. search rules)
     (λ c. search rules)
     (λ c κs. search rules)
     (λ c. search rules)
-    (λ c. let e = c.before.stands.ensures c.if2.true in pushed_not _ (λ n. record { at = _; lo = e.0; hi = e.1; is = e.2 }))
+    (λ c. let e = c.stands.ensures c.if-stands.true in pushed_not _ (λ n. record { at = _; lo = e.0; hi = e.1; is = e.2 }))
     (λ c. search rules)
     (λ c. search rules)
     (λ c. search rules)
@@ -28,4 +28,4 @@ push_spec =
     (λ c. search rules)
     (λ c. search rules)
     (λ c. let c1 = c.before.before.before.before.before in let c2 = c1.before.before.before in
-    pushed_new _ c2.requires.0 c2.requires.1 c1.if1.false))
+    pushed_new _ c2.requires.0 c2.requires.1 c1.if-a-eq-NOTHING.false))

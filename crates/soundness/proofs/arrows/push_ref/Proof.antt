@@ -10,5 +10,5 @@ use Rattle.soundness.proofs.arrows.push.Reads as push-reads
 
 pub push_ref_spec : {M : Type 1} → statement M
 push_ref_spec =
-    tie.close (tie.spec (λ c. let t = c.if1.true in pushed_not _ (λ n. absurd (n (omega arith)))) (λ c. search rules)
+    tie.close (tie.spec (λ c. let t = c.if-r-eq0.true in pushed_not _ (λ n. absurd (n (omega arith)))) (λ c. search rules)
     (λ c κs. search rules) (λ c. search rules) (λ c. search rules) (λ c. search rules))

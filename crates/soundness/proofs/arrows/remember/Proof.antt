@@ -20,6 +20,6 @@ remember_spec =
     (λ c. search rules)
     (λ c. search rules)
     (λ c. search rules)
-    (λ c. let q = c.place.ensures in let h = c.before.before.requires in simp length-set (omega arith))
+    (λ c. let q = c.place.ensures in let h = c.requires in simp length-set (omega arith))
     (λ c. search rules)
-    (λ c. puts _ c.place.result _ _ (let q = c.place.ensures in let h = c.before.before.requires in omega arith)))
+    (λ c. puts _ c.place.result _ _ (let q = c.place.ensures in let h = c.requires in omega arith)))

@@ -12,10 +12,10 @@ use Rattle.soundness.proofs.arrows.remember_all.Reads as reads
 use Rattle.soundness.proofs.arrows.remember_all.Lts as lts
 use Rattle.soundness.proofs.arrows.remember.Reads as remember-reads
 
-abbrev invariant_loop : tie.invariant_loop
+abbrev invariant_loop : tie.invariant-loop-k
 invariant_loop b from to list memo₀ k₀ memo k = (from ≤ k) × (length memo ≡ length memo₀) × StaysRight list from to b memo₀ memo
 
-abbrev decreases_loop : tie.decreases_loop
+abbrev decreases_loop : tie.decreases-loop-k
 decreases_loop b from to list memo₀ k₀ memo k = to - k
 
 pub remember_all_spec : {M : Type 1} → statement M
@@ -24,20 +24,20 @@ remember_all_spec =
     (tie.spec
     invariant_loop
     decreases_loop
-    (λ c. c.before.before.requires.1)
+    (λ c. c.requires.1)
     (λ c. (omega arith, refl, stays-none _ _))
     (λ c. search rules)
-    (λ c. let c1 = c.before.before.before.before.before.before.before in let t = c.before.before.loop-test.true in
+    (λ c. let c1 = c.before.before.before.before.before.before.before in let t = c.loop-k-test.true in
     let p = c1.requires.2 in omega arith)
-    (λ c κs. c.before.before.before.loop.invariant.1 ∙ c.before.before.before.before.before.before.before.requires.0)
-    (λ c. let t = c.before.before.before.before.before.loop-test.true in omega arith)
-    (λ c. let t = c.before.before.before.before.before.loop-test.true in omega arith)
-    (λ c. let c1 = c.before.before in let c2 = c1.before.before.before.before in let h = c2.loop.invariant.0 in (
+    (λ c κs. c.loop-k.invariant.1 ∙ c.requires.0)
+    (λ c. let t = c.loop-k-test.true in omega arith)
+    (λ c. let t = c.loop-k-test.true in omega arith)
+    (λ c. let c1 = c.before.before in let c2 = c1.before.before.before.before in let h = c2.loop-k.invariant.0 in (
       omega arith,
-      c1.remember.auto.0 ∙ c2.loop.invariant.1,
-      stays-more c2.loop.invariant.2 h
-          c1.before.before.before.loop-test.true refl c1.remember.ensures,
+      c1.remember.auto.memo ∙ c2.loop-k.invariant.1,
+      stays-more c2.loop-k.invariant.2 h
+          c1.loop-k-test.true refl c1.remember.ensures,
     ))
     (λ c. search rules)
-    (λ c. c.before.loop.invariant.2)
+    (λ c. c.loop-k.invariant.2)
     (λ c. stays-none _ _))

@@ -23,4 +23,4 @@ seen_spec =
     (λ c. search rules)
     (λ c. λ e. absurd (true≢false (sym e)))
     (λ c. λ e.
-    record { at = c.before.before.before.before.place.result; first = c.before.before.if1.false; second = c.if2.false }))
+    record { at = c.place.result; first = c.if-memo-at.false; second = c.if-memo-at-2.false }))

@@ -12,4 +12,4 @@ pub stands_spec : {M : Type 1} → statement M
 stands_spec =
     tie.close (tie.spec (λ c. λ e. absurd (true≢false (sym e))) (λ c. λ e. absurd (true≢false (sym e))) (λ c. search rules)
     (λ c. search rules) (λ c. λ e. absurd (true≢false (sym e))) (λ c. let c1 = c.before.before.before in λ e.
-    (let h = c1.if1.false in omega arith, let h = c.before.before.if2.false in omega arith, c.if3.false)))
+    (let h = c1.if-k-from.false in omega arith, let h = c.if-k-to.false in omega arith, c.if-list-k.false)))

@@ -44,30 +44,30 @@ pub +set_table_spec : {M : Type 1} → statement M
 )
     (set_table-at t)
     set-table.Post
-    (λ c. tabled-nothing _ c.if1.true)
-    (λ c. tabled-everything _ c.if2.true)
-    (λ c κs. row-yes _ (let x = c.before.if1.false in let y = c.if2.false in omega arith))
-    (λ c κs. let r = set_led c.before.before.before.before.requires.1 c.before.before.if1.false c.before.if2.false
-    c.row_of.ensures in (r.below, omega arith, c.before.before.before.before.requires.1.good.sizes.room))
-    (λ c κs. set-asked c.before.before.before.before.before.requires.1
-    (set_led c.before.before.before.before.before.requires.1 c.before.before.before.if1.false c.before.before.if2.false
-    c.before.row_of.ensures)
-    c.before.before.before.before.before.requires.0 (inl c.get.ensures))
-    (λ c κs. let r = set_led c.before.before.before.before.before.before.requires.1 c.before.before.before.before.if1.false
-    c.before.before.before.if2.false c.before.before.row_of.ensures in
-    (r.below, omega arith, c.before.before.before.before.before.before.requires.1.good.sizes.room))
-    (λ c κs. set-asked c.before.before.before.before.before.before.before.requires.1
-    (set_led c.before.before.before.before.before.before.before.requires.1 c.before.before.before.before.before.if1.false
-    c.before.before.before.before.if2.false c.before.before.before.row_of.ensures)
-    c.before.before.before.before.before.before.before.requires.0 (inr c.get2.ensures))
-    (λ c κs. set-row-asked c.before.before.before.before.before.before.before.before.requires.1
-    (set_led c.before.before.before.before.before.before.before.before.requires.1
-    c.before.before.before.before.before.before.if1.false c.before.before.before.before.before.if2.false
-    c.before.before.before.before.row_of.ensures)
-    c.before.before.before.get.ensures c.before.get2.ensures c.before.before.set-table.ensures c.set-table2.ensures)
+    (λ c. tabled-nothing _ c.if-b-eq-NOTHING.true)
+    (λ c. tabled-everything _ c.if-b-eq-EVERYTHING.true)
+    (λ c κs. row-yes _ (let x = c.if-b-eq-NOTHING.false in let y = c.if-b-eq-EVERYTHING.false in omega arith))
+    (λ c κs. let r = set_led c.requires.1 c.if-b-eq-NOTHING.false c.if-b-eq-EVERYTHING.false
+    c.row_of-i.ensures in (r.below, omega arith, c.requires.1.good.sizes.room))
+    (λ c κs. set-asked c.requires.1
+    (set_led c.requires.1 c.if-b-eq-NOTHING.false c.if-b-eq-EVERYTHING.false
+    c.row_of-i.ensures)
+    c.requires.0 (inl c.get.ensures))
+    (λ c κs. let r = set_led c.requires.1 c.if-b-eq-NOTHING.false
+    c.if-b-eq-EVERYTHING.false c.row_of-i.ensures in
+    (r.below, omega arith, c.requires.1.good.sizes.room))
+    (λ c κs. set-asked c.requires.1
+    (set_led c.requires.1 c.if-b-eq-NOTHING.false
+    c.if-b-eq-EVERYTHING.false c.row_of-i.ensures)
+    c.requires.0 (inr c.get-2.ensures))
+    (λ c κs. set-row-asked c.requires.1
+    (set_led c.requires.1
+    c.if-b-eq-NOTHING.false c.if-b-eq-EVERYTHING.false
+    c.row_of-i.ensures)
+    c.get.ensures c.get-2.ensures c.set_table-low.ensures c.set_table-high.ensures)
     (λ c κs. search rules)
-    (λ c. let r = set_led c.before.before.before.before.before.before.before.before.before.before.requires.1
-    c.before.before.before.before.before.before.before.before.if1.false
-    c.before.before.before.before.before.before.before.if2.false
-    c.before.before.before.before.before.before.row_of.ensures in
-    carried-tabled _ r.leads c.before.row-table.ensures c.carried.ensures)
+    (λ c. let r = set_led c.requires.1
+    c.if-b-eq-NOTHING.false
+    c.if-b-eq-EVERYTHING.false
+    c.row_of-i.ensures in
+    carried-tabled _ r.leads c.row_table.ensures c.carried.ensures)

@@ -52,78 +52,78 @@ pub +table_of_spec : {M : Type 1} → statement M
 )
     (table_of-at t)
     table-of.Post
-    (λ c. record { tabled = tabled-nothing _ c.if1.true; known = c.before.before.before.requires.1.known })
-    (λ c. record { tabled = tabled-everything _ c.if2.true; known = c.before.before.before.before.requires.1.known })
-    (λ c κs. row-yes _ (let x = c.before.if1.false in let y = c.if2.false in omega arith))
-    (λ c κs. let r = led c.before.before.before.before.before.before.requires.1 c.before.before.before.if1.false
-    c.before.before.if2.false c.before.row_of.ensures in
+    (λ c. record { tabled = tabled-nothing _ c.if-a-eq-NOTHING.true; known = c.requires.1.known })
+    (λ c. record { tabled = tabled-everything _ c.if-a-eq-EVERYTHING.true; known = c.requires.1.known })
+    (λ c κs. row-yes _ (let x = c.if-a-eq-NOTHING.false in let y = c.if-a-eq-EVERYTHING.false in omega arith))
+    (λ c κs. let r = led c.requires.1 c.if-a-eq-NOTHING.false
+    c.if-a-eq-EVERYTHING.false c.row_of-i.ensures in
     let h = r.place in
-    let e = c.before.before.before.before.before.before.requires.1.size in
-    (r.below, c.before.before.before.before.before.before.requires.1.good.sizes.room, omega arith))
+    let e = c.requires.1.size in
+    (r.below, c.requires.1.good.sizes.room, omega arith))
     (λ c κs. search rules)
     (λ c. search rules)
-    (λ c. recalled c.before.before.before.before.before.before.before.before.before.requires.1
-    (led c.before.before.before.before.before.before.before.before.before.requires.1
-    c.before.before.before.before.before.before.if1.false c.before.before.before.before.before.if2.false
-    c.before.before.before.before.row_of.ensures) c.before.before.recall.ensures c.before.if3.true
+    (λ c. recalled c.requires.1
+    (led c.requires.1
+    c.if-a-eq-NOTHING.false c.if-a-eq-EVERYTHING.false
+    c.row_of-i.ensures) c.recall-known.ensures c.if-known-ne0.true
     c.carried.ensures)
-    (λ c κs. let r = led c.before.before.before.before.before.before.before.before.requires.1
-    c.before.before.before.before.before.if1.false c.before.before.before.before.if2.false
-    c.before.before.before.row_of.ensures in
-    (r.below, omega arith, c.before.before.before.before.before.before.before.before.requires.1.good.sizes.room))
-    (λ c κs. asked-arrow c.before.before.before.before.before.before.before.before.before.before.requires.1
-    (led c.before.before.before.before.before.before.before.before.before.before.requires.1
-    c.before.before.before.before.before.before.before.if1.false
-    c.before.before.before.before.before.before.if2.false c.before.before.before.before.before.row_of.ensures)
-    c.before.before.before.before.before.before.before.before.before.before.requires.0 (inl c.before.get.ensures) refl
-    c.before.before.before.before.before.before.before.before.before.before.requires.1.known)
-    (λ c κs. let r = led c.before.before.before.before.before.before.before.before.before.before.before.before.before.requires.1
-    c.before.before.before.before.before.before.before.before.before.before.if1.false
-    c.before.before.before.before.before.before.before.before.before.if2.false
-    c.before.before.before.before.before.before.before.before.row_of.ensures in (
+    (λ c κs. let r = led c.requires.1
+    c.if-a-eq-NOTHING.false c.if-a-eq-EVERYTHING.false
+    c.row_of-i.ensures in
+    (r.below, omega arith, c.requires.1.good.sizes.room))
+    (λ c κs. asked-arrow c.requires.1
+    (led c.requires.1
+    c.if-a-eq-NOTHING.false
+    c.if-a-eq-EVERYTHING.false c.row_of-i.ensures)
+    c.requires.0 (inl c.get.ensures) refl
+    c.requires.1.known)
+    (λ c κs. let r = led c.requires.1
+    c.if-a-eq-NOTHING.false
+    c.if-a-eq-EVERYTHING.false
+    c.row_of-i.ensures in (
       r.below,
       omega arith,
-      c.before.before.before.before.before.before.before.before.before.before.before.before.before.requires.1.good.sizes.room,
+      c.requires.1.good.sizes.room,
     ))
     (λ c κs. asked-arrow
-    c.before.before.before.before.before.before.before.before.before.before.before.before.before.before.before.requires.1
-    (led c.before.before.before.before.before.before.before.before.before.before.before.before.before.before.before.requires.1 c.before.before.before.before.before.before.before.before.before.before.before.before.if1.false
-    c.before.before.before.before.before.before.before.before.before.before.before.if2.false
-    c.before.before.before.before.before.before.before.before.before.before.row_of.ensures)
-    c.before.before.before.before.before.before.before.before.before.before.before.before.before.before.before.requires.0
-    (inr c.before.get2.ensures) c.before.before.before.before.table-of.auto.1.1.1.1.1.1.0
-    c.before.before.before.before.table-of.ensures.known)
+    c.requires.1
+    (led c.requires.1 c.if-a-eq-NOTHING.false
+    c.if-a-eq-EVERYTHING.false
+    c.row_of-i.ensures)
+    c.requires.0
+    (inr c.get-2.ensures) c.table_of-low.auto.memo
+    c.table_of-low.ensures.known)
     (λ c κs. row-asked
-    c.before.before.before.before.before.before.before.before.before.before.before.before.before.before.before.before.before.before.requires.1
-    (led c.before.before.before.before.before.before.before.before.before.before.before.before.before.before.before.before.before.before.requires.1
-    c.before.before.before.before.before.before.before.before.before.before.before.before.before.before.before.if1.false c.before.before.before.before.before.before.before.before.before.before.before.before.before.before.if2.false c.before.before.before.before.before.before.before.before.before.before.before.before.before.row_of.ensures)
-    c.before.before.before.before.before.before.before.before.before.get.ensures
-    c.before.before.before.before.get2.ensures
-    c.before.before.before.before.before.before.before.table-of.ensures.tabled
-    c.before.before.table-of2.ensures.tabled)
+    c.requires.1
+    (led c.requires.1
+    c.if-a-eq-NOTHING.false c.if-a-eq-EVERYTHING.false c.row_of-i.ensures)
+    c.get.ensures
+    c.get-2.ensures
+    c.table_of-low.ensures.tabled
+    c.table_of-high.ensures.tabled)
     (λ c κs. let r =
-    led c.before.before.before.before.before.before.before.before.before.before.before.before.before.before.before.before.before.before.before.before.requires.1
-    c.before.before.before.before.before.before.before.before.before.before.before.before.before.before.before.before.before.if1.false
-    c.before.before.before.before.before.before.before.before.before.before.before.before.before.before.before.before.if2.false
-    c.before.before.before.before.before.before.before.before.before.before.before.before.before.before.before.row_of.ensures in
+    led c.requires.1
+    c.if-a-eq-NOTHING.false
+    c.if-a-eq-EVERYTHING.false
+    c.row_of-i.ensures in
     let h = r.place in
-    let e = c.before.before.before.before.table-of2.auto.1.1.1.1.1.1.0 in
-    let f = c.before.before.before.before.before.before.before.before.before.table-of.auto.1.1.1.1.1.1.0 in
-    let g = c.before.before.before.before.before.before.before.before.before.before.before.before.before.before.before.before.before.before.before.before.requires.1.size in (
+    let e = c.table_of-high.auto.memo in
+    let f = c.table_of-low.auto.memo in
+    let g = c.requires.1.size in (
       r.below,
-      c.before.before.before.before.before.before.before.before.before.before.before.before.before.before.before.before.before.before.before.before.requires.1.good.sizes.room,
+      c.requires.1.good.sizes.room,
       omega arith,
     ))
     (λ c κs. search rules)
     (λ c. search rules)
     (λ c. let r =
-    led c.before.before.before.before.before.before.before.before.before.before.before.before.before.before.before.before.before.before.before.before.before.before.before.before.requires.1
-    c.before.before.before.before.before.before.before.before.before.before.before.before.before.before.before.before.before.before.before.before.before.if1.false
-    c.before.before.before.before.before.before.before.before.before.before.before.before.before.before.before.before.before.before.before.before.if2.false
-    c.before.before.before.before.before.before.before.before.before.before.before.before.before.before.before.before.before.before.before.row_of.ensures in
+    led c.requires.1
+    c.if-a-eq-NOTHING.false
+    c.if-a-eq-EVERYTHING.false
+    c.row_of-i.ensures in
     let h = r.place in
-    let e = c.before.before.before.before.before.before.before.before.table-of2.auto.1.1.1.1.1.1.0 in
-    let f = c.before.before.before.before.before.before.before.before.before.before.before.before.before.table-of.auto.1.1.1.1.1.1.0 in
-    let g = c.before.before.before.before.before.before.before.before.before.before.before.before.before.before.before.before.before.before.before.before.before.before.before.before.requires.1.size in
-    made_table r (omega arith) c.before.before.before.before.before.before.before.before.table-of2.ensures.known
-    c.before.before.before.before.before.row-table.ensures c.before.before.before.keep.ensures c.carried2.ensures)
+    let e = c.table_of-high.auto.memo in
+    let f = c.table_of-low.auto.memo in
+    let g = c.requires.1.size in
+    made_table r (omega arith) c.table_of-high.ensures.known
+    c.row_table-table.ensures c.keep.ensures c.carried-2.ensures)

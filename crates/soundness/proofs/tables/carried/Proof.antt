@@ -14,5 +14,5 @@ pub carried_spec : {M : Type 1} → statement M
 carried_spec =
     tie.close
     (tie.spec (λ c κs. search rules) (λ c. search rules) (λ c. search rules)
-    (λ c. ap (λ (b : Bool). carried_cells b c.before.before.args.table) (sym c.if1.true ∙ c.before.is-marked.ensures))
-    (λ c. ap (λ (b : Bool). carried_cells b c.before.before.args.table) (sym c.if1.false ∙ c.before.is-marked.ensures)))
+    (λ c. ap (λ (b : Bool). carried_cells b c.args.table) (sym c.if-is_marked.true ∙ c.is_marked.ensures))
+    (λ c. ap (λ (b : Bool). carried_cells b c.args.table) (sym c.if-is_marked.false ∙ c.is_marked.ensures)))

@@ -8,4 +8,4 @@ use Rattle.soundness.proofs.tables.disjoint.Reads as reads
 use Rattle.soundness.proofs.tables.disjoint.Lts as lts
 
 pub disjoint_spec : {M : Type 1} → statement M
-disjoint_spec = tie.close (tie.spec (λ c. fails (disjoint-no _ _ c.if1.true)) (λ c. holds (disjoint-yes _ _ c.if1.false)))
+disjoint_spec = tie.close (tie.spec (λ c. fails (disjoint-no _ _ c.if-x-y-ne0.true)) (λ c. holds (disjoint-yes _ _ c.if-x-y-ne0.false)))

@@ -13,4 +13,4 @@ use Rattle.soundness.proofs.tables.low_cells.Reads as low-cells-reads
 
 pub join_spec : {M : Type 1} → statement M
 join_spec =
-    tie.close (tie.spec (λ c κs. search rules) (λ c κs. search rules) (λ c. rw (c.before.low-cells.ensures, c.high-cells.ensures)))
+    tie.close (tie.spec (λ c κs. search rules) (λ c κs. search rules) (λ c. rw (c.low_cells.ensures, c.high_cells.ensures)))

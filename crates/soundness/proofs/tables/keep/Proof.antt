@@ -16,4 +16,4 @@ keep_spec =
     (λ c. search rules)
     (λ c. search rules)
     (λ c. search rules)
-    (λ c. rw c.get.ensures refl))
+    (λ c. rw c.get-k.ensures refl))

@@ -10,4 +10,4 @@ pub low_cells_spec : {M : Type 1} → statement M
 low_cells_spec =
     tie.close
     (tie.spec (λ c. search rules) (λ c. search rules) (λ c. search rules) (λ c. search rules) (λ c. search rules)
-    (λ c. let r = c.match.rest in low-past _ r.0.0.0.0.1 r.0.0.0.1 r.0.0.1 r.0.1 r.1))
+    (λ c. let r = c.in_default.in_default-own.rest in low-past _ r.0.0.0.0.1 r.0.0.0.1 r.0.0.1 r.0.1 r.1))

@@ -15,4 +15,4 @@ recall_spec =
     (λ c. search rules)
     (λ c. search rules)
     (λ c. search rules)
-    (λ c. rw c.before.get.ensures refl))
+    (λ c. rw c.get-k.ensures refl))

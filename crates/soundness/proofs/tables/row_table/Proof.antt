@@ -13,9 +13,9 @@ use Rattle.soundness.proofs.tables.join.Reads as join-reads
 pub row_table_spec : {M : Type 1} → statement M
 row_table_spec =
     tie.close
-    (tie.spec (λ c κs. let p = c.before.requires in let f = row_fits p.good p.used in (f.0, omega arith, p.good.sizes.room))
-    (λ c. let p = c.before.before.requires in
+    (tie.spec (λ c κs. let p = c.requires in let f = row_fits p.good p.used in (f.0, omega arith, p.good.sizes.room))
+    (λ c. let p = c.requires in
     let f = row_fits p.good p.used in let e = c.get.ensures in let u = p.up in let h = f.1 in omega arith)
-    (λ c κs. (c.before.before.requires.low-base, c.before.before.requires.shift)) (λ c κs. search rules)
-    (λ c. row-tabled c.before.before.before.before.requires c.before.before.get.ensures c.before.class_of.ensures
+    (λ c κs. (c.requires.low-base, c.requires.shift)) (λ c κs. search rules)
+    (λ c. row-tabled c.requires c.get.ensures c.class_of.ensures
     c.join.ensures))

@@ -16,13 +16,13 @@ set_cells_spec =
     (tie.spec
     (λ c. search rules)
     (λ c. search rules)
-    (λ c. let h = c.before.before.before.requires.size in omega arith)
-    (λ c. set_found (c.before.before.before.before.args.at % 1024) c.before.before.before.before.requires refl c.if1.true)
-    (λ c κs. c.before.before.before.before.requires.asked)
+    (λ c. let h = c.requires.size in omega arith)
+    (λ c. set_found (c.args.at % 1024) c.requires refl c.if-known-b.true)
+    (λ c κs. c.requires.asked)
     (λ c. search rules)
     (λ c. search rules)
     (λ c. search rules)
-    (λ c. let h = c.before.before.before.before.before.requires.size in omega arith)
+    (λ c. let h = c.requires.size in omega arith)
     (λ c. search rules)
-    (λ c. set_more c.before.before.before.before.before.requires
-    (let h = c.before.before.before.before.before.requires.size in omega arith) c.set-table.ensures refl refl))
+    (λ c. set_more c.requires
+    (let h = c.requires.size in omega arith) c.set_table-table.ensures refl refl))

@@ -43,37 +43,37 @@ pub +apart_spec : {M : Type 1} → statement M
 )
     (apart-at t)
     apart.Post
-    (λ c. walk_none c.before.before.before.before.before.before.before.requires.1 c.if1.true)
-    (λ c. walk-nothing c.before.before.before.before.before.before.before.before.requires.1 c.if2.true)
+    (λ c. walk_none c.requires.1 c.if-from-to.true)
+    (λ c. walk-nothing c.requires.1 c.if-b-eq-NOTHING.true)
     (λ c. let c1 = c.before.before.before.before.before.before.before.before.before in
-    walk-everything c1.requires.1 c.before.before.if1.false c.if3.true)
+    walk-everything c1.requires.1 c.if-from-to.false c.if-b-eq-EVERYTHING.true)
     (λ c κs. let c1 = c.before.before.before.before.before.before.before.before.before in
-    (c1.requires.1.asks.good, c1.requires.1.against.arrow, (is_row_lem _ c.before.if2.false c.if3.false)))
+    (c1.requires.1.asks.good, c1.requires.1.against.arrow, (is_row_lem _ c.if-b-eq-NOTHING.false c.if-b-eq-EVERYTHING.false)))
     (λ c κs. let c1 = c.before.before.before.before in let c2 =
     c1.before.before.before.before.before.before.before.before.before.before in
-    tables_asked c2.pre.1 (is_row_lem _ c1.before.before.if2.false c1.before.if3.false) (says-yes
-    c.before.before.before.if4.true c1.deep.ensures))
+    tables_asked c2.pre.1 (is_row_lem _ c1.if-b-eq-NOTHING.false c1.if-b-eq-EVERYTHING.false) (says-yes
+    c.if-deep.true c1.deep.ensures))
     (λ c. search rules)
     (λ c. search rules)
     (λ c. search rules)
     (λ c. let c1 = c.before.before.before.before in let c2 =
     c1.before.before.before.before.before.before.before.before.before.before.before.before.before.before.before in
-    walk_tables c2.pre.1 c1.tables-apart.ensures)
+    walk_tables c2.pre.1 c1.tables_apart.ensures)
     (λ c κs. let c1 = c.before.before.before.before in let c2 =
     c1.before.before.before.before.before.before.before.before.before.before in
-    step-asked c2.pre.1 (is_row_lem _ c1.before.before.if2.false c1.before.if3.false) (says-no
-    c.before.before.before.if4.false c1.deep.ensures))
+    step-asked c2.pre.1 (is_row_lem _ c1.if-b-eq-NOTHING.false c1.if-b-eq-EVERYTHING.false) (says-no
+    c.if-deep.false c1.deep.ensures))
     (λ c κs. let c1 = c.before.before.before.before.before.before.before.before.before in
     let c2 = c1.before.before.before.before in let c3 =
     c2.before.before.before.before.before.before.before.before.before.before.before in
-    call-low (walk_at c3.pre.1 (says-no c2.if4.false c2.before.deep.ensures) c1.step.ensures) c3.pre.0
-    c1.step.auto.1.1.1.1.1.1.1.0 c1.step.auto.1.1.1.1.1.1.1.1.0)
+    call-low (walk_at c3.pre.1 (says-no c2.if-deep.false c2.deep.ensures) c1.step-q.ensures) c3.pre.0
+    c1.step-q.auto.list c1.step-q.auto.found)
     (λ c. let c1 = c.before.before.before.before.before.before.before.before.before.before.before in
     let c2 = c1.before.before.before.before.before.before.before.before.before.before in
-    c1.apart.auto.1.1.1.1.1.1.1.1.1.0 ∙ c2.step.auto.1.1.1.1.1.1.1.0)
+    c1.apart.auto.list ∙ c2.step-q.auto.list)
     (λ c. let c1 = c.before.before.before.before.before.before.before.before.before.before.before in
     let c2 = c1.before.before.before.before.before.before.before.before.before.before in
-    c1.apart.auto.1.1.1.1.1.1.1.1.1.1.0 ∙ c2.step.auto.1.1.1.1.1.1.1.1.0)
+    c1.apart.auto.found ∙ c2.step-q.auto.found)
     (λ c. search rules)
     (λ c. search rules)
     (λ c. search rules)
@@ -81,24 +81,24 @@ pub +apart_spec : {M : Type 1} → statement M
     let c2 = c1.before.before.before.before.before.before.before.before.before.before in
     let c3 = c2.before.before.before.before in let c4 =
     c3.before.before.before.before.before.before.before.before.before.before.before in
-    low-fails (walk_at c4.pre.1 (says-no c3.if4.false c3.before.deep.ensures) c2.step.ensures) c1.apart.ensures
-    c.if5.true)
+    low-fails (walk_at c4.pre.1 (says-no c3.if-deep.false c3.deep.ensures) c2.step-q.ensures) c1.apart.ensures
+    c.if-not-apart.true-raw)
     (λ c κs. let c1 = c.before.before.before.before.before.before.before.before.before.before.before.before.before.before.before.before in let c2 = c1.before.before.before.before.before.before.before.before.before.before in
     let c3 = c2.before.before.before.before in let c4 =
     c3.before.before.before.before.before.before.before.before.before.before.before in
-    call-high (walk_at c4.pre.1 (says-no c3.if4.left c3.before.deep.ensures) c2.step.ensures) c1.apart.ensures
-    c4.pre.0 (c1.apart.kept.1.1.1.1.1.1.1.1.1.0 ∙ c2.step.kept.1.1.1.1.1.1.1.0)
-    (c1.apart.kept.1.1.1.1.1.1.1.1.1.1.0 ∙ c2.step.kept.1.1.1.1.1.1.1.1.0)
+    call-high (walk_at c4.pre.1 (says-no c3.if-deep.left c3.deep.ensures) c2.step-q.ensures) c1.apart.ensures
+    c4.pre.0 (c1.apart.kept.1.1.1.1.1.1.1.1.1.0 ∙ c2.step-q.kept.1.1.1.1.1.1.1.0)
+    (c1.apart.kept.1.1.1.1.1.1.1.1.1.1.0 ∙ c2.step-q.kept.1.1.1.1.1.1.1.1.0)
     c1.apart.kept.1.1.1.1.1.1.1.1.1.1.1.0 c1.apart.kept.1.1.1.1.1.1.1.1.1.1.1.1.0
     c1.apart.kept.1.1.1.1.1.1.1.1.1.1.1.1.1.0)
     (λ c. let c1 = c.before.before.before.before.before.before.before.before.before.before.before in
     let c2 = c1.before.before.before.before.before.before.before.before.before.before.before.before.before.before.before.before.before in let c3 = c2.before.before.before.before.before.before.before.before.before.before in
-    c1.apart2.auto.1.1.1.1.1.1.1.1.1.0 ∙ c2.apart.kept.1.1.1.1.1.1.1.1.1.0
-    ∙ c3.step.kept.1.1.1.1.1.1.1.0)
+    c1.apart-2.auto.list ∙ c2.apart.kept.1.1.1.1.1.1.1.1.1.0
+    ∙ c3.step-q.kept.1.1.1.1.1.1.1.0)
     (λ c. let c1 = c.before.before.before.before.before.before.before.before.before.before.before in
     let c2 = c1.before.before.before.before.before.before.before.before.before.before.before.before.before.before.before.before.before in let c3 = c2.before.before.before.before.before.before.before.before.before.before in
-    c1.apart2.auto.1.1.1.1.1.1.1.1.1.1.0 ∙ c2.apart.kept.1.1.1.1.1.1.1.1.1.1.0
-    ∙ c3.step.kept.1.1.1.1.1.1.1.1.0)
+    c1.apart-2.auto.found ∙ c2.apart.kept.1.1.1.1.1.1.1.1.1.1.0
+    ∙ c3.step-q.kept.1.1.1.1.1.1.1.1.0)
     (λ c. search rules)
     (λ c. search rules)
     (λ c. search rules)
@@ -106,26 +106,26 @@ pub +apart_spec : {M : Type 1} → statement M
     let c2 = c1.before.before.before.before.before.before.before.before.before.before.before.before.before.before.before.before.before in let c3 = c2.before.before.before.before.before.before.before.before.before.before in
     let c4 = c3.before.before.before.before in let c5 =
     c4.before.before.before.before.before.before.before.before.before.before.before in
-    high-fails (walk_at c5.pre.1 (says-no c4.if4.left c4.before.deep.ensures) c3.step.ensures) c2.apart.ensures
-    c1.apart2.ensures c.if6.true)
+    high-fails (walk_at c5.pre.1 (says-no c4.if-deep.left c4.deep.ensures) c3.step-q.ensures) c2.apart.ensures
+    c1.apart-2.ensures c.if-not-apart-2.true-raw)
     (λ c κs. let c1 = c.before.before.before.before.before.before.before.before.before.before.before.before.before in
     let c2 = c1.before.before.before.before.before.before.before.before.before.before.before.before.before.before.before.before.before in let c3 = c2.before.before.before.before.before.before.before.before.before.before in
     let c4 = c3.before.before.before.before in let c5 =
     c4.before.before.before.before.before.before.before.before.before.before.before in
-    remember-asked (walk_at c5.pre.1 (says-no c4.if4.left c4.before.deep.ensures) c3.step.ensures)
-    c2.apart.ensures c1.apart2.ensures (c1.apart2.auto.1.1.1.1.1.1.1.1.1.0
-    ∙ c2.apart.kept.1.1.1.1.1.1.1.1.1.0 ∙ c3.step.kept.1.1.1.1.1.1.1.0)
-    (c1.apart2.auto.1.1.1.1.1.1.1.1.1.1.1.0 ∙ c2.apart.kept.1.1.1.1.1.1.1.1.1.1.1.0))
+    remember-asked (walk_at c5.pre.1 (says-no c4.if-deep.left c4.before.deep.ensures) c3.step-q.ensures)
+    c2.apart.ensures c1.apart-2.ensures (c1.apart-2.auto.1.1.1.1.1.1.1.1.1.0
+    ∙ c2.apart.kept.1.1.1.1.1.1.1.1.1.0 ∙ c3.step-q.kept.1.1.1.1.1.1.1.0)
+    (c1.apart-2.auto.1.1.1.1.1.1.1.1.1.1.1.0 ∙ c2.apart.kept.1.1.1.1.1.1.1.1.1.1.1.0))
     (λ c. let c1 = c.before.before.before.before.before.before.before.before.before.before.before.before.before.before.before.before in let c2 = c1.before.before.before.before.before.before.before.before.before.before.before.before.before.before.before.before.before in let c3 =
     c2.before.before.before.before.before.before.before.before.before.before in
-    c1.apart2.kept.1.1.1.1.1.1.1.1.1.0 ∙ c2.apart.kept.1.1.1.1.1.1.1.1.1.0
+    c1.apart-2.kept.1.1.1.1.1.1.1.1.1.0 ∙ c2.apart.kept.1.1.1.1.1.1.1.1.1.0
     ∙ c3.step.kept.1.1.1.1.1.1.1.0)
     (λ c. let c1 = c.before.before.before.before.before.before.before.before.before.before.before.before.before.before.before.before in let c2 = c1.before.before.before.before.before.before.before.before.before.before.before.before.before.before.before.before.before in let c3 =
     c2.before.before.before.before.before.before.before.before.before.before in
-    c1.apart2.kept.1.1.1.1.1.1.1.1.1.1.0 ∙ c2.apart.kept.1.1.1.1.1.1.1.1.1.1.0
+    c1.apart-2.kept.1.1.1.1.1.1.1.1.1.1.0 ∙ c2.apart.kept.1.1.1.1.1.1.1.1.1.1.0
     ∙ c3.step.kept.1.1.1.1.1.1.1.1.0)
-    (λ c. let c1 = c.before.before.before.before.before.before.before.before.before.before.before.before.before.before.before.before in let c2 = c1.before.before.before.before.before.before.before.before.before.before.before.before.before.before.before.before.before in c.before.before.remember-all.auto.1.1.1.1.0
-    ∙ c1.apart2.kept.1.1.1.1.1.1.1.1.1.1.1.0 ∙ c2.apart.kept.1.1.1.1.1.1.1.1.1.1.1.0)
+    (λ c. let c1 = c.before.before.before.before.before.before.before.before.before.before.before.before.before.before.before.before in let c2 = c1.before.before.before.before.before.before.before.before.before.before.before.before.before.before.before.before.before in c.remember_all.auto.memo
+    ∙ c1.apart-2.kept.1.1.1.1.1.1.1.1.1.1.1.0 ∙ c2.apart.kept.1.1.1.1.1.1.1.1.1.1.1.0)
     (λ c. search rules)
     (λ c. search rules)
     (λ c. let c1 = c.before.before.before.before.before in
@@ -135,5 +135,5 @@ pub +apart_spec : {M : Type 1} → statement M
     let c5 = c4.before.before.before.before.before.before.before.before.before.before in
     let c6 = c5.before.before.before.before in let c7 =
     c6.before.before.before.before.before.before.before.before.before.before.before in
-    both_pass (walk_at c7.pre.1 (says-no c6.if4.false c6.before.deep.ensures) c5.step.ensures) c4.apart.ensures
-    c2.apart2.ensures c3.if5.false c1.if6.false c.before.before.remember-all.ensures)
+    both_pass (walk_at c7.pre.1 (says-no c6.if-deep.false c6.before.deep.ensures) c5.step-q.ensures) c4.apart.ensures
+    c2.apart-2.ensures c3.if5.false c1.if6.false c.remember_all.ensures)

@@ -31,8 +31,8 @@ pub +narrow_ok_spec : {M : Type 1} → statement M
 )
     (narrow_ok-at t)
     narrow-ok.Post
-    (λ c. c.match.keys1)
-    (λ c κs. let p = c.before.before.before.requires.1.0 in (
+    (λ c. c.in-Now-1.keys1)
+    (λ c κs. let p = c.requires.1.0 in (
       record {
         good = p.good;
         shift = omega arith;
@@ -43,10 +43,10 @@ pub +narrow_ok_spec : {M : Type 1} → statement M
             arith;
         refs = p.refs;
       },
-      c.before.before.before.requires.1.1,
+      c.requires.1.1,
     ))
-    (λ c. c.match.keys2)
-    (λ c κs. let p = c.before.before.before.requires.1.0 in (
+    (λ c. c.in-Next-1.keys2)
+    (λ c κs. let p = c.requires.1.0 in (
       record {
         good = p.good;
         shift = omega arith;
@@ -56,16 +56,16 @@ pub +narrow_ok_spec : {M : Type 1} → statement M
         within = omega arith;
         refs = λ h lo hi. p.refs h (omega arith) hi;
       },
-      c.before.before.before.requires.1.1,
+      c.requires.1.1,
     ))
-    (λ c. c.match.keys3)
-    (λ c κs. let e = rw c.enum-told3.given.1 at c.before.before.before.requires.0 in
-    (omega arith, c.before.before.before.requires.1))
-    (λ c. rw c.before.before.enum-told3.given.1 (fails (λ q. says_fail c.if1.true c.before.narrow-ok.ensures q.0)))
-    (λ c κs. let e = rw c.before.before.enum-told3.given.1 at c.before.before.before.before.before.requires.0 in
-    (omega arith, c.before.before.before.before.before.requires.1))
-    (λ c. rw c.before.enum_told.given.1 c.narrow-apart.ensures)
-    (λ c. rw c.before.enum-told2.given.1 c.narrow-apart2.ensures)
-    (λ c. rw c.before.before.before.enum-told3.given.1
-    (says_map (λ d. (says_pass c.before.if1.false c.before.before.narrow-ok.ensures, d)) (λ q. q.1)
-    c.narrow-ok2.ensures))
+    (λ c. c.in-Both-1.keys3)
+    (λ c κs. let e = rw c.in-Both.is at c.requires.0 in
+    (omega arith, c.requires.1))
+    (λ c. rw c.in-Both.is (fails (λ q. says_fail c.if-not-narrow_ok.true-raw c.narrow_ok.ensures q.0)))
+    (λ c κs. let e = rw c.in-Both.is at c.requires.0 in
+    (omega arith, c.requires.1))
+    (λ c. rw c.in-Now.is c.narrow_apart.ensures)
+    (λ c. rw c.in-Next.is c.narrow_apart-in-Next.ensures)
+    (λ c. rw c.in-Both.is
+    (says_map (λ d. (says_pass c.if-not-narrow_ok.false-raw c.narrow_ok.ensures, d)) (λ q. q.1)
+    c.narrow_ok-in-Both.ensures))

@@ -31,8 +31,8 @@ pub +wide_ok_spec : {M : Type 1} → statement M
 )
     (wide_ok-at t)
     wide-ok.Post
-    (λ c. c.match.keys1)
-    (λ c κs. let p = c.before.before.before.requires.1 in
+    (λ c. c.in-Now-1.keys1)
+    (λ c κs. let p = c.requires.1 in
     record {
       good = p.good;
       shift = omega arith;
@@ -42,8 +42,8 @@ pub +wide_ok_spec : {M : Type 1} → statement M
       within = omega arith;
       refs = p.refs;
     })
-    (λ c. c.match.keys2)
-    (λ c κs. let p = c.before.before.before.requires.1 in
+    (λ c. c.in-Next-1.keys2)
+    (λ c κs. let p = c.requires.1 in
     record {
       good = p.good;
       shift = omega arith;
@@ -53,13 +53,13 @@ pub +wide_ok_spec : {M : Type 1} → statement M
       within = omega arith;
       refs = λ h lo hi. p.refs h (omega arith) hi;
     })
-    (λ c. c.match.keys3)
-    (λ c κs. let e = rw c.enum-told3.given.1 at c.before.before.before.requires.0 in
-    (omega arith, c.before.before.before.requires.1))
-    (λ c. rw c.before.before.enum-told3.given.1 (fails (λ q. says_fail c.if1.true c.before.wide-ok.ensures q.0)))
-    (λ c κs. let e = rw c.before.before.enum-told3.given.1 at c.before.before.before.before.before.requires.0 in
-    (omega arith, c.before.before.before.before.before.requires.1))
-    (λ c. rw c.before.enum_told.given.1 c.wide-apart.ensures)
-    (λ c. rw c.before.enum-told2.given.1 c.wide-apart2.ensures)
-    (λ c. rw c.before.before.before.enum-told3.given.1
-    (says_map (λ d. (says_pass c.before.if1.false c.before.before.wide-ok.ensures, d)) (λ q. q.1) c.wide-ok2.ensures))
+    (λ c. c.in-Both-1.keys3)
+    (λ c κs. let e = rw c.in-Both.is at c.requires.0 in
+    (omega arith, c.requires.1))
+    (λ c. rw c.in-Both.is (fails (λ q. says_fail c.if-not-wide_ok.true-raw c.wide_ok.ensures q.0)))
+    (λ c κs. let e = rw c.in-Both.is at c.requires.0 in
+    (omega arith, c.requires.1))
+    (λ c. rw c.in-Now.is c.wide_apart.ensures)
+    (λ c. rw c.in-Next.is c.wide_apart-in-Next.ensures)
+    (λ c. rw c.in-Both.is
+    (says_map (λ d. (says_pass c.if-not-wide_ok.false-raw c.wide_ok.ensures, d)) (λ q. q.1) c.wide_ok-in-Both.ensures))

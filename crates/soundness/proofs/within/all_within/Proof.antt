@@ -19,38 +19,38 @@ all_within_spec =
     tie.close
     (tie.spec
     (λ c. holds
-    (within_all (view c.before.before.args.rows c.before.before.args.words.now) c.before.before.args.v
-    c.if1.true))
+    (within_all (view c.args.rows c.args.words.now) c.args.v
+    c.if-v-eq-EVERYTHING.true))
     (λ c κs. search rules)
-    (λ c κs. let w = c.before.before.before.requires.good.sizes.room in (omega arith, omega arith))
+    (λ c κs. let w = c.requires.good.sizes.room in (omega arith, omega arith))
     (λ c. search rules)
-    (λ c κs. let p = c.before.before.before.before.before.requires in
+    (λ c κs. let p = c.requires in
     record {
       good = p.good;
       against =
-          rw c.before.before.flip.ensures
+          rw c.flip-b.ensures
           (against-not
-          (view c.before.before.before.before.before.args.rows c.before.before.before.before.before.args.words.now)
-          c.before.before.before.before.before.args.v p.against);
+          (view c.args.rows c.args.words.now)
+          c.args.v p.against);
       refs = p.refs;
     })
     (λ c. both_tell
-    (view c.before.before.before.before.before.before.args.rows
-    c.before.before.before.before.before.before.args.words.now) c.before.before.before.before.before.before.args.v
-    (rw c.before.before.before.flip.ensures at c.wide_ok.ensures))
-    (λ c κs. let p = c.before.before.before.before.before.requires in (
+    (view c.args.rows
+    c.args.words.now) c.args.v
+    (rw c.flip-b.ensures at c.wide_ok.ensures))
+    (λ c κs. let p = c.requires in (
       record {
         good = p.good;
         against =
-            rw c.before.before.flip.ensures
+            rw c.flip-b.ensures
             (against-not
-            (view c.before.before.before.before.before.args.rows c.before.before.before.before.before.args.words.now)
-            c.before.before.before.before.before.args.v p.against);
+            (view c.args.rows c.args.words.now)
+            c.args.v p.against);
         refs = p.refs;
       },
-      let e = c.before.header-word.ensures in let h = c.if2.false in omega arith,
+      let e = c.header_word.ensures in let h = c.if-header_word-gt-FEW.false in omega arith,
     ))
     (λ c. both_tell
-    (view c.before.before.before.before.before.before.args.rows
-    c.before.before.before.before.before.before.args.words.now) c.before.before.before.before.before.before.args.v
-    (rw c.before.before.before.flip.ensures at c.narrow-ok.ensures)))
+    (view c.args.rows
+    c.args.words.now) c.args.v
+    (rw c.flip-b.ensures at c.narrow_ok.ensures)))

@@ -12,11 +12,11 @@ use Rattle.layout.proofs.row_of.Reads as row-of-reads
 pub deep_spec : {M : Type 1} → statement M
 deep_spec =
     tie.close
-    (tie.spec (λ c κs. c.before.requires.2) (λ c κs. let c1 = c.before.before in
+    (tie.spec (λ c κs. c.requires.2) (λ c κs. let c1 = c.before.before in
     let r = row_at (view c1.args.rows c1.args.words.now) _ c1.requires.0 c1.requires.1 c1.requires.2 in let h = r.row in
     let e = c.row_of.ensures in (omega arith, omega arith, c1.requires.0.sizes.room))
     (λ c. let c1 = c.before.before.before.before in deep-no (view c1.args.rows c1.args.words.now) _ (level-read (view
-    c1.args.rows c1.args.words.now) _ c1.requires.0 c1.requires.1 c1.requires.2 c.before.before.row_of.ensures
-    c.before.get.ensures) c.if1.true) (λ c. let c1 = c.before.before.before.before in
+    c1.args.rows c1.args.words.now) _ c1.requires.0 c1.requires.1 c1.requires.2 c.row_of.ensures
+    c.get.ensures) c.if-get-base.true) (λ c. let c1 = c.before.before.before.before in
     deep-yes (view c1.args.rows c1.args.words.now) _ (level-read (view c1.args.rows c1.args.words.now) _
-    c1.requires.0 c1.requires.1 c1.requires.2 c.before.before.row_of.ensures c.before.get.ensures) c.if1.false))
+    c1.requires.0 c1.requires.1 c1.requires.2 c.row_of.ensures c.get.ensures) c.if-get-base.false))

@@ -18,21 +18,21 @@ pub half_spec : {M : Type 1} → statement M
 half_spec =
     tie.close
     (tie.spec
-    (λ c. let c1 = c.before.before in let t = c.if1.true in
+    (λ c. let c1 = c.before.before in let t = c.if-a-eq-EVERYTHING.true in
     sym (half-stays (view c1.args.rows c1.args.words.now) _ _ _ (row-no _ (omega arith))))
-    (λ c κs. is_row_lem _ c.before.before.requires.1.some c.if1.false)
+    (λ c κs. is_row_lem _ c.requires.1.some c.if-a-eq-EVERYTHING.false)
     (λ c κs. let c1 = c.before.before.before in let r = row_at (view c1.args.rows c1.args.words.now) _ c1.requires.0
-    c1.requires.1.arrow (is_row_lem _ c1.requires.1.some c.before.if1.false) in let h = r.row in let e = c.row_of.ensures in
+    c1.requires.1.arrow (is_row_lem _ c1.requires.1.some c.if-a-eq-EVERYTHING.false) in let h = r.row in let e = c.row_of-i.ensures in
     (omega arith, omega arith, c1.requires.0.sizes.room))
     (λ c. let c1 = c.before.before.before.before.before in
     half-read-other (view c1.args.rows c1.args.words.now) _ _ (is_row_lem _ c1.requires.1.some
-    c.before.before.before.if1.false) c.before.before.row_of.ensures c.before.get.ensures c.if2.true)
+    c.if-a-eq-EVERYTHING.false) c.row_of-i.ensures c.get.ensures c.if-get-level.true)
     (λ c κs. let c1 = c.before.before.before.before.before in
     let r = row_at (view c1.args.rows c1.args.words.now) _ c1.requires.0 c1.requires.1.arrow (is_row_lem _ c1.requires.1.some
-    c.before.before.before.if1.false) in let h = r.row in let e = c.before.before.row_of.ensures in let s = c1.requires.2 in
+    c.if-a-eq-EVERYTHING.false) in let h = r.row in let e = c.row_of-i.ensures in let s = c1.requires.2 in
     (omega arith, omega arith, c1.requires.0.sizes.room))
     (λ c κs. search rules)
     (λ c. let c1 = c.before.before.before.before in let c2 = c1.before.before.before in
-    half-read (view c2.args.rows c2.args.words.now) _ _ (is_row_lem _ c2.requires.1.some c1.before.if1.false)
-    c1.row_of.ensures c.before.before.before.get.ensures c.before.before.if2.false c.before.get2.ensures
+    half-read (view c2.args.rows c2.args.words.now) _ _ (is_row_lem _ c2.requires.1.some c1.if-a-eq-EVERYTHING.false)
+    c1.row_of-i.ensures c.get.ensures c.if-get-level.false c.get-2.ensures
     c.carry.ensures))

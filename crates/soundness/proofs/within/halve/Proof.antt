@@ -22,7 +22,7 @@ halve_spec =
     (λ c κs. search rules)
     (λ c κs. search rules)
     (λ c. halved_here
-    (view c.before.before.before.before.before.before.before.args.rows
-    c.before.before.before.before.before.before.before.args.words.now) _
-    (let t = c.before.before.before.before.before.if1.false in omega arith) c.before.before.before.before.row_of.ensures
-    c.before.before.before.get.ensures c.before.get2.ensures c.before.before.carry.ensures c.carry2.ensures))
+    (view c.args.rows
+    c.args.words.now) _
+    (let t = c.if-own-other.false in omega arith) c.row_of-i.ensures
+    c.get.ensures c.get-2.ensures c.carry.ensures c.carry-2.ensures))

@@ -25,8 +25,8 @@ lay_spec =
     let m = c1.requires.room in (c1.requires.lists, omega arith, omega arith, omega arith))
     (λ c κs. let c1 = c.before.before.before.before.before.before.before in
     let c2 = c1.before.before.before.before.before.before.before.before in let o = c2.requires.lists.order.2 in
-    let m = c2.requires.room in let h = c1.halves.ensures in let n = h.least in let u = h.most in (
-      halves_again c2.requires.lists h c1.halves.auto.1.1.1.1.1.1.1.1.0 c1.halves.auto.1.1.1.1.1.1.1.1.1.0,
+    let m = c2.requires.room in let h = c1.halves-mid.ensures in let n = h.least in let u = h.most in (
+      halves_again c2.requires.lists h c1.halves-mid.auto.list c1.halves-mid.auto.found,
       n,
       omega arith,
       omega arith,
@@ -35,22 +35,22 @@ lay_spec =
     omega arith)
     (λ c κs. let c1 = c.before.before.before.before in let c2 = c1.before.before.before.before.before.before.before.before
     in let c3 = c2.before.before.before.before.before.before.before.before in let o = c3.pre.lists.order.2 in
-    let m = c3.pre.room in let h = c2.halves.ensures in let h1 = h.least in let h2 = h.most in let g = c1.halves2.ensures in
+    let m = c3.pre.room in let h = c2.halves.ensures in let h1 = h.least in let h2 = h.most in let g = c1.halves-stop.ensures in
     let g1 = g.least in let g2 = g.most in (omega arith, omega arith, omega arith))
     (λ c. search rules)
     (λ c. search rules)
     (λ c. let c1 = c.before.before.before.before.before in
     let c2 = c1.before.before.before.before.before.before.before.before in let c3 = c2.before.before.before.before in
     let c4 = c3.before.before.before.before in let e = c.cut.ensures in (
-      laid-whole c4.requires c3.top_of.ensures c2.before.before.before.halve.ensures c1.before.before.before.if1.true
-          c2.halves.ensures c1.halves2.ensures e.0 e.1 e.2 e.3,
+      laid-whole c4.requires c3.top_of-top.ensures c2.halve-h.ensures c1.if-l-top.true
+          c2.halves-mid.ensures c1.halves-stop.ensures e.0 e.1 e.2 e.3,
       refl,
       refl,
     ))
     (λ c κs. let c1 = c.before.before.before.before.before.before.before in
     let c2 = c1.before.before.before.before.before.before.before.before in let o = c2.requires.lists.order.2 in
-    let m = c2.requires.room in let h = c1.halves.ensures in let n = h.least in let u = h.most in (
-      halves_again c2.requires.lists h c1.halves.auto.1.1.1.1.1.1.1.1.0 c1.halves.auto.1.1.1.1.1.1.1.1.1.0,
+    let m = c2.requires.room in let h = c1.halves-mid.ensures in let n = h.least in let u = h.most in (
+      halves_again c2.requires.lists h c1.halves-mid.auto.list c1.halves-mid.auto.found,
       omega arith,
       omega arith,
       omega arith,
@@ -61,8 +61,8 @@ lay_spec =
     (λ c. search rules)
     (λ c. let c1 = c.before.before.before.before in let c2 = c1.before.before.before.before.before.before.before.before in
     let c3 = c2.before.before.before.before in let c4 = c3.before.before.before.before in (
-      laid-halves c4.requires c3.top_of.ensures c2.before.before.before.halve.ensures c2.halves.ensures
-          c1.halves3.ensures,
+      laid-halves c4.requires c3.top_of-top.ensures c2.halve-h.ensures c2.halves-mid.ensures
+          c1.halves-stop-2.ensures,
       refl,
       refl,
     )))

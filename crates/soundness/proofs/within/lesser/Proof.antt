@@ -13,14 +13,14 @@ use Rattle.layout.proofs.row_of.Reads as row-of-reads
 pub lesser_spec : {M : Type 1} → statement M
 lesser_spec =
     tie.close
-    (tie.spec (λ c. let c1 = c.before.before in lesser-all (view c1.args.rows c1.args.words.now) c.if1.true
-    c1.requires.2) (λ c κs. is_row_lem _ c.before.before.requires.1.some c.if1.false) (λ c κs. let c1 = c.before.before.before in
+    (tie.spec (λ c. let c1 = c.before.before in lesser-all (view c1.args.rows c1.args.words.now) c.if-a-eq-EVERYTHING.true
+    c1.requires.2) (λ c κs. is_row_lem _ c.requires.1.some c.if-a-eq-EVERYTHING.false) (λ c κs. let c1 = c.before.before.before in
     let r = row_at (view c1.args.rows c1.args.words.now) _ c1.requires.0 c1.requires.1.arrow (is_row_lem _ c1.requires.1.some
-    c.before.if1.false) in let h = r.row in let e = c.row_of.ensures in
+    c.if-a-eq-EVERYTHING.false) in let h = r.row in let e = c.row_of.ensures in
     (omega arith, omega arith, c1.requires.0.sizes.room)) (λ c. let c1 = c.before.before.before.before.before in
     let z = level-read (view c1.args.rows c1.args.words.now) _ c1.requires.0 c1.requires.1.arrow (is_row_lem _ c1.requires.1.some
-    c.before.before.before.if1.false) c.before.before.row_of.ensures c.before.get.ensures in let t = c.if2.true in
+    c.if-a-eq-EVERYTHING.false) c.row_of.ensures c.get-own.ensures in let t = c.if-own-level.true in
     omega arith) (λ c. let c1 = c.before.before.before.before.before in
     let z = level-read (view c1.args.rows c1.args.words.now) _ c1.requires.0 c1.requires.1.arrow (is_row_lem _ c1.requires.1.some
-    c.before.before.before.if1.false) c.before.before.row_of.ensures c.before.get.ensures in let t = c.if2.false in
+    c.if-a-eq-EVERYTHING.false) c.row_of.ensures c.get-own.ensures in let t = c.if-own-level.false in
     omega arith))

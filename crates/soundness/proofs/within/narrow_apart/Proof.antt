@@ -11,4 +11,4 @@ use Rattle.soundness.proofs.within.refs_apart.Reads as refs-apart-reads
 pub narrow_apart_spec : {M : Type 1} → statement M
 narrow_apart_spec =
     tie.close
-    (tie.spec (λ c. search rules) (λ c κs. refs-asked FEW c.before.before.requires.0 c.before.before.requires.1) (λ c. search rules))
+    (tie.spec (λ c. search rules) (λ c κs. refs-asked FEW c.requires.0 c.requires.1) (λ c. search rules))

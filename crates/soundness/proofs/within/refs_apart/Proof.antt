@@ -19,8 +19,8 @@ pub refs_apart_spec : {M : Type 1} → statement M
 refs_apart_spec =
     tie.close
     (tie.spec
-    (λ c κs. let w = c.before.before.requires.roots.good.sizes.room in (omega arith, omega arith))
-    (λ c. let w = c.before.before.before.requires.roots.good.sizes.n_max in let e = c.header-word.ensures in omega arith)
+    (λ c κs. let w = c.requires.roots.good.sizes.room in (omega arith, omega arith))
+    (λ c. let w = c.requires.roots.good.sizes.n_max in let e = c.header_word.ensures in omega arith)
     (λ c κs. search rules)
     (λ c. search rules)
     (λ c. search rules)
@@ -37,10 +37,10 @@ refs_apart_spec =
     (λ c. search rules)
     (λ c. search rules)
     (λ c κs. let c1 = c.before.before.before.before.before.before.before in let c2 = c1.before.before.before.before in
-    let c3 = c2.before.before.before in walk-asked c3.requires (c1.before.before.before.base-of.ensures ∙ ap (λ
-    (k : ℕ). 2 * k - 10) c2.header-word.ensures) c1.list-refs.ensures (c1.list-refs.auto.1.1.1.0
-    ∙ length-replicate {A = ℕ} ROOM 0) (c1.list-refs.auto.1.1.1.1.0 ∙ length-replicate {A = ℕ} FOUND 0))
-    (λ c. c.before.before.before.before.before.before.apart.auto.1.1.1.1.1.1.1.1.1.1.1.1.0)
+    let c3 = c2.before.before.before in walk-asked c3.requires (c1.base_of-base.ensures ∙ ap (λ
+    (k : ℕ). 2 * k - 10) c2.header_word.ensures) c1.list_refs-stop.ensures (c1.list_refs-stop.auto.list
+    ∙ length-replicate {A = ℕ} ROOM 0) (c1.list_refs-stop.auto.found ∙ length-replicate {A = ℕ} FOUND 0))
+    (λ c. c.apart.auto.first)
     (λ c. let c1 = c.before.before.before.before.before.before in
     let c2 = c1.before.before.before.before.before.before.before.before in
-    refs-told c2.list-refs.ensures c1.apart.ensures))
+    refs-told c2.list_refs-stop.ensures c1.apart.ensures))

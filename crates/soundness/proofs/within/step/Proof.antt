@@ -20,15 +20,15 @@ step_spec =
     (λ c κs. let c1 = c.before.before.before.before.before.before.before.before in
     (c1.requires.lists.good, c1.requires.arrow, c1.requires.is_row_lem, c1.requires.shift))
     (λ c κs. let c1 = c.before.before.before.before in let c2 = c1.before.before.before.before.before.before in
-    least-asked c2.requires c1.keep-all-open.ensures c.before.top_of.ensures c1.keep-all-open.auto.1.1.1.1.0)
+    least-asked c2.requires c1.keep_all_open-last.ensures c.top_of.ensures c1.keep_all_open-last.auto.1.1.1.1.0)
     (λ c κs. let c1 = c.before.before.before.before in let c2 = c1.before.before.before in
     let c3 = c2.before.before.before.before.before.before in
-    lay-asked c3.requires c2.keep-all-open.ensures c1.top_of.ensures c2.keep-all-open.auto.1.1.1.1.0
-    c.before.before.least.ensures)
+    lay-asked c3.requires c2.keep_all_open-last.ensures c1.top_of.ensures c2.keep_all_open-last.auto.1.1.1.1.0
+    c.least-l.ensures)
     (λ c. let c1 = c.before.before.before.before in let c2 = c1.before.before.before.before.before.before.before.before in
-    c1.lay.auto.1.1.1.1.1.1.1.1.0 ∙ c2.keep-all-open.auto.1.1.1.1.0)
-    (λ c. c.before.before.before.before.lay.auto.1.1.1.1.1.1.1.1.1.0)
+    c1.lay.auto.list ∙ c2.keep_all_open-last.auto.1.1.1.1.0)
+    (λ c. c.lay.auto.found)
     (λ c. let c1 = c.before.before.before.before in let c2 = c1.before.before.before.before.before in
     let c3 = c2.before.before.before.before.before.before.before.before.before in
-    stepped c3.requires c2.before.before.before.keep-all-open.ensures c2.top_of.ensures
-    c1.before.before.before.least.ensures c1.lay.ensures))
+    stepped c3.requires c2.keep_all_open-last.ensures c2.top_of.ensures
+    c1.least-l.ensures c1.lay.ensures))

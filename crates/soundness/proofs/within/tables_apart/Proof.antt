@@ -19,11 +19,11 @@ use Rattle.soundness.proofs.tables.arrow_cells.Reads as arrow-cells-reads
 use Rattle.soundness.proofs.tables.disjoint.Reads as disjoint-reads
 use Rattle.soundness.proofs.tables.set_cells.Reads as set-cells-reads
 
-abbrev invariant_loop : tie.invariant_loop
+abbrev invariant_loop : tie.invariant-loop-k
 invariant_loop words rows shift base b from to list first₀ second y k₀ first k = (from ≤ k) × (k ≤ to) × (length first ≡ length first₀)
     × Known (view rows words) base shift 0 first × ListApart (view rows words) shift list from k b
 
-abbrev decreases_loop : tie.decreases_loop
+abbrev decreases_loop : tie.decreases-loop-k
 decreases_loop words rows shift base b from to list first₀ second y k₀ first k = to - k
 
 pub tables_apart_spec : {M : Type 1} → statement M
@@ -32,8 +32,8 @@ tables_apart_spec =
     (tie.spec
     invariant_loop
     decreases_loop
-    (λ c κs. c.before.before.before.before.requires.is_row_lem)
-    (λ c κs. table-second c.before.before.before.before.before.before.requires)
+    (λ c κs. c.requires.is_row_lem)
+    (λ c κs. table-second c.requires)
     (λ c. let c1 = c.before.before.before.before.before.before.before.before.before in (
       omega arith,
       c1.requires.order,
@@ -44,40 +44,40 @@ tables_apart_spec =
     ))
     (λ c. search rules)
     (λ c. let c1 = c.before.before.before.before.before.before.before.before.before.before.before.before in
-    let t = c.before.loop-test.true in let p = c1.requires.within in omega arith)
+    let t = c.loop-k-test.true in let p = c1.requires.within in omega arith)
     (λ c κs. let c1 = c.before.before.before in let c2 =
     c1.before.before.before.before.before.before.before.before.before.before in
-    table-first c2.pre c1.loop.invariant.0 c.before.before.loop-test.true refl c1.loop.invariant.2 c1.loop.invariant.3)
+    table-first c2.pre c1.loop-k.invariant.0 c.loop-k-test.true refl c1.loop-k.invariant.2 c1.loop-k.invariant.3)
     (λ c κs. search rules)
     (λ c. let c1 = c.before.before.before.before in let c2 = c1.before.before.before.before in
-    c1.arrow-cells.auto.1.1.1.1.1.1.0 ∙ c2.loop.invariant.2)
-    (λ c. c.before.before.before.before.before.before.before.before.before.before.before.set-cells.auto.1.1.1.1.1.1.0)
+    c1.arrow_cells-x.auto.memo ∙ c2.loop-k.invariant.2)
+    (λ c. c.set_cells-y.auto.memo)
     (λ c. let c1 = c.before.before.before.before in let c2 = c1.before.before.before.before in
     let c3 = c2.before.before.before in let c4 = c3.before.before.before.before.before.before.before in
     record {
-      says = fails (λ q. says_fail c.if1.true (by_tables c4.requires c1.arrow-cells.ensures c3.set-cells.ensures
-          c.before.disjoint.ensures) (q _ c2.loop.invariant.0
-          c1.before.before.before.loop-test.true));
-      first = c1.arrow-cells.ensures.known;
-      second = c3.set-cells.ensures.sets;
+      says = fails (λ q. says_fail c.if-not-disjoint.true-raw (by_tables c4.requires c1.arrow_cells-x.ensures c3.set_cells-y.ensures
+          c.disjoint.ensures) (q _ c2.loop-k.invariant.0
+          c1.loop-k-test.true));
+      first = c1.arrow_cells-x.ensures.known;
+      second = c3.set_cells-y.ensures.sets;
     })
-    (λ c. let t = c.before.before.before.before.before.before.before.loop-test.true in omega arith)
-    (λ c. let t = c.before.before.before.before.before.before.before.loop-test.true in omega arith)
+    (λ c. let t = c.loop-k-test.true in omega arith)
+    (λ c. let t = c.loop-k-test.true in omega arith)
     (λ c. let c1 = c.before.before.before.before in let c2 = c1.before.before.before.before in
     let c3 = c2.before.before.before.before.before.before.before.before.before.before in
-    let t = c1.before.before.before.loop-test.true in let h = c2.loop.invariant.0 in (
+    let t = c1.loop-k-test.true in let h = c2.loop-k.invariant.0 in (
       omega arith,
       omega arith,
-      c1.arrow-cells.auto.1.1.1.1.1.1.0 ∙ c2.loop.invariant.2,
-      c1.arrow-cells.ensures.known,
-      apart_more (view c3.args.rows c3.args.words.now) c3.args.list.now c2.loop.invariant.4 refl (says_pass c.if1.false
-          (by_tables c3.requires c1.arrow-cells.ensures c2.before.before.before.set-cells.ensures c.before.disjoint.ensures)),
+      c1.arrow_cells-x.auto.memo ∙ c2.loop-k.invariant.2,
+      c1.arrow_cells-x.ensures.known,
+      apart_more (view c3.args.rows c3.args.words.now) c3.args.list.now c2.loop-k.invariant.4 refl (says_pass c.if-not-disjoint.false-raw
+          (by_tables c3.requires c1.arrow_cells-x.ensures c2.set_cells-y.ensures c.disjoint.ensures)),
     ))
-    (λ c. c.before.loop.invariant.2)
-    (λ c. c.before.before.before.before.set-cells.auto.1.1.1.1.1.1.0)
+    (λ c. c.loop-k.invariant.2)
+    (λ c. c.set_cells-y.auto.memo)
     (λ c. let c1 = c.before in let c2 = c1.before.before.before in record {
-      says = holds (λ j lo hi. let t = c.loop-test.false in
-          c1.loop.invariant.4 j lo (omega arith));
-      first = c1.loop.invariant.3;
-      second = c2.set-cells.ensures.sets;
+      says = holds (λ j lo hi. let t = c.loop-k-test.false in
+          c1.loop-k.invariant.4 j lo (omega arith));
+      first = c1.loop-k.invariant.3;
+      second = c2.set_cells-y.ensures.sets;
     }))

@@ -19,6 +19,6 @@ top_of_spec =
     let r = row_at (view c1.args.rows c1.args.words.now) _ c1.requires.0 c1.requires.1 c1.requires.2 in let l = r.level in
     let h = r.shallow in let n = c1.requires.0.sizes.n_max in let s = c1.requires.3 in
     let z = level-read (view c1.args.rows c1.args.words.now) _ c1.requires.0 c1.requires.1 c1.requires.2
-    c.before.row_of.ensures c.get.ensures in omega arith) (λ c. let c1 = c.before.before.before in
+    c.row_of.ensures c.get.ensures in omega arith) (λ c. let c1 = c.before.before.before in
     let z = level-read (view c1.args.rows c1.args.words.now) _ c1.requires.0 c1.requires.1 c1.requires.2
-    c.before.row_of.ensures c.get.ensures in omega arith))
+    c.row_of.ensures c.get.ensures in omega arith))
