@@ -214,7 +214,7 @@ class Tree:
     Files of the proof of one function are left out."""
     def __init__(self, root='.'):
         self.root, self.files, self.decls, self.where, self.known = root, {}, {}, {}, {}
-        for path in sorted(glob.glob(os.path.join(root, 'crates/*/*/**/*.antt'), recursive=True)):
+        for path in sorted(x for part in ('specs', 'proofs') for x in glob.glob(os.path.join(root, f'crates/*/{part}/**/*.antt'), recursive=True)):
             crate, folder, *rest = os.path.relpath(path, os.path.join(root, 'crates')).split('/')
             if rest == ['Lib.antt'] or 'Proof' in rest or rest[1:] and rest[-1] in ('Proof.antt', 'Invariants.antt', 'Answers.antt'): continue
             key = (crate, folder, '.'.join(rest)[:-5])
