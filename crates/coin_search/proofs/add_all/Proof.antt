@@ -48,7 +48,7 @@ add_all_spec =
       c1.settle-most.auto.work ∙ c2.loop-left.invariant.0,
       c1.settle-most.auto.notes ∙ c2.loop-left.invariant.1,
       half-next c3.args.mask _ _ c2.loop-left.invariant.2,
-      below_next c3.args.wave.low c3.args.s c3.args.mask c2.loop-left.j c3.pre.2 c2.loop-left.invariant.2 c2.loop-left.invariant.3 c1.settle-most.ensures.0,
+      below_next c3.args.wave.low c3.args.s c3.args.mask c2.loop-left.j c3.requires.2 c2.loop-left.invariant.2 c2.loop-left.invariant.3 c1.settle-most.ensures.0,
       c1.settle-most.ensures.1,
     ))
     (λ c. c.loop-left.invariant.0)

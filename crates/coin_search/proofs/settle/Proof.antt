@@ -32,10 +32,10 @@ settle_spec =
     ))
     (λ c. search rules)
     (λ c. let c1 = c.before.before.before.before.before.before.before.before.before.before.before.before.before.before in record {
-      fits = let b = c1.pre.1.bits.small in let f = node-few c1.args.wave.low c1.args.s c1.pre.2 b in let e = power_is c1.args.wave.low (omega arith) in omega arith;
+      fits = let b = c1.requires.1.bits.small in let f = node-few c1.args.wave.low c1.args.s c1.requires.2 b in let e = power_is c1.args.wave.low (omega arith) in omega arith;
     })
-    (λ c κs. let c1 = c.before.before.before.before.before in let c2 = c1.before.before in let c3 = c2.before.before.before.before.before.before.before in note-asks c3.pre.0 c3.pre.1 c3.pre.2 c3.args.j c3.pre.3 c2.if-u-wave.false c1.admit-most.ensures)
+    (λ c κs. let c1 = c.before.before.before.before.before in let c2 = c1.before.before in let c3 = c2.before.before.before.before.before.before.before in note-asks c3.requires.0 c3.requires.1 c3.requires.2 c3.args.j c3.requires.3 c2.if-u-wave.false c1.admit-most.ensures)
     (λ c. search rules)
     (λ c. search rules)
     (λ c. let c1 = c.before.before.before.before.before.before.before.before in let c2 = c1.before.before in let c3 =
-    c2.before.before.before in let c4 = c3.before.before.before.before in settle-ends c4.pre.0 c4.pre.1 c4.pre.2 c4.args.j c4.pre.3 c2.if-u-wave.false c1.admit-most.ensures c4.args.left c3.if1.left c.note_mark.ensures))
+    c2.before.before.before in let c4 = c3.before.before.before.before in settle-ends c4.requires.0 c4.requires.1 c4.requires.2 c4.args.j c4.requires.3 c2.if-u-wave.false c1.admit-most.ensures c4.args.left c3.if1.left c.note_mark.ensures))

@@ -18,9 +18,9 @@ pub lay_spec : {M : Type 1} → statement M
 lay_spec =
     tie.close
     (tie.spec
-    (λ c κs. (c.requires.lists.good, c.requires.arrow, c.requires.is_row_lem, c.requires.shift))
+    (λ c κs. (c.requires.lists.good, c.requires.arrow, c.requires.is_row, c.requires.shift))
     (λ c κs. let r = row_at (view c.args.rows c.args.words.now) _
-    c.requires.lists.good c.requires.arrow c.requires.is_row_lem in (c.requires.is_row_lem, r.row, c.requires.lists.good.sizes.room))
+    c.requires.lists.good c.requires.arrow c.requires.is_row in (c.requires.is_row, r.row, c.requires.lists.good.sizes.room))
     (λ c κs. let o = c.requires.lists.order.2 in
     let m = c.requires.room in (c.requires.lists, omega arith, omega arith, omega arith))
     (λ c κs. let o = c.requires.lists.order.2 in

@@ -17,7 +17,7 @@ step_spec =
     (tie.spec
     (λ c κs. let o = c.requires.lists.order in let o1 = o.1 in
     let z = c.requires.lists.room.0 in let y = c.requires.room in (c.requires.size, o.0, omega arith))
-    (λ c κs. (c.requires.lists.good, c.requires.arrow, c.requires.is_row_lem, c.requires.shift))
+    (λ c κs. (c.requires.lists.good, c.requires.arrow, c.requires.is_row, c.requires.shift))
     (λ c κs. least-asked c.requires c.keep_all_open-last.ensures c.top_of.ensures c.keep_all_open-last.auto.list)
     (λ c κs. lay-asked c.requires c.keep_all_open-last.ensures c.top_of.ensures c.keep_all_open-last.auto.list
     c.least-l.ensures)
