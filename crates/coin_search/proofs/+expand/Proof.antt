@@ -92,18 +92,18 @@ pub +expand_spec : {M : Type 1} → statement M
     c2 = c1.before.before.before.before.before.before.before.before.before.before.before in step-asks c2.requires.1
     c1.if-p-wave.false)
     (λ c κs. let c1 = c.before.before.before.before.before.before.before in let c2 = c1.before.before.before.before.before.before.before.before in let c3 = c2.before.before.before.before.before.before.before.before.before.before.before in (
-      let q = c3.requires.0 in let d = c3.requires.1.depth in let e = c2.if-p-wave.left in omega arith,
-      high-asks c3.requires.1 c2.if-p-wave.left (made-node c3.requires.1) c1.expand-more.ensures c.step-high.ensures,
+      let q = c3.requires.0 in let d = c3.requires.1.depth in let e = c2.if-p-wave.false in omega arith,
+      high-asks c3.requires.1 c2.if-p-wave.false (made-node c3.requires.1) c1.expand-more.ensures c.step-high.ensures,
     ))
-    (λ c κs. let c1 = c.before.before.before.before.before in let c2 = c1.before.before.before.before.before.before.before.before.before.before.before.before.before.before.before.before in let c3 = c2.before.before.before.before.before.before.before.before.before.before.before in join-asks c3.requires.1 c2.if-p-wave.left (made-node c3.requires.1) c1.expand-most.ensures.1)
+    (λ c κs. let c1 = c.before.before.before.before.before in let c2 = c1.before.before.before.before.before.before.before.before.before.before.before.before.before.before.before.before in let c3 = c2.before.before.before.before.before.before.before.before.before.before.before in join-asks c3.requires.1 c2.if-p-wave.false (made-node c3.requires.1) c1.expand-most.ensures.1)
     (λ c κs. let c1 = c.before.before.before in let c2 = c1.before.before.before.before.before.before in let c3 = c2.before.before.before.before.before.before.before.before.before.before.before.before.before.before.before.before in let c4 = c3.before.before.before.before.before.before.before.before.before.before.before in (
       c4.requires.1.arrow,
-      spent-pre (joined-notes c4.requires.1 c3.if-p-wave.left (made-node c4.requires.1) c2.expand-most.ensures.1 c1.join.ensures) c4.requires.1.goal (made-few c4.requires.1),
+      spent-pre (joined-notes c4.requires.1 c3.if-p-wave.false (made-node c4.requires.1) c2.expand-most.ensures.1 c1.join.ensures) c4.requires.1.goal (made-few c4.requires.1),
       let f = few_bits c4.requires.1 in omega arith,
     ))
     (λ c. let c1 = c.before.before.before.before.before.before.before.before.before.before.before.before in let c2 =
     c1.before.before.before.before.before.before.before.before in c1.expand-most.auto.work ∙ c2.expand.kept.1.0)
     (λ c. let c1 = c.before.before.before.before.before.before in let c2 = c1.before.before.before.before.before.before in let c3 = c2.before.before.before.before.before.before.before.before in let c4 = c3.before.before.before.before.before.before.before.before.before.before.before.before.before in c.put_spent.auto.notes ∙ c1.join.auto.notes ∙ c2.expand-most.kept.1.1.0 ∙ c3.expand-more.kept.1.1.0 ∙ c4.new_bits-new.kept.1.0)
-    (λ c. let c1 = c.before.before.before.before.before.before in let c2 = c1.before.before.before.before.before.before in let c3 = c2.before.before.before in let c4 = c3.before.before.before.before.before in let c5 = c4.before.before.before in let c6 = c5.before in let c7 = c6.before.before.before.before in let c8 = c7.before.before.before.before.before.before.before.before.before.before.before in expands_halves c8.requires.1 c7.if-p-wave.left c8.args.wave.goals (made-node c8.requires.1) c6.bit-side.ensures c5.step-low.ensures c3.step-high.ensures c4.expand-more.ensures.0
+    (λ c. let c1 = c.before.before.before.before.before.before in let c2 = c1.before.before.before.before.before.before in let c3 = c2.before.before.before in let c4 = c3.before.before.before.before.before in let c5 = c4.before.before.before in let c6 = c5.before in let c7 = c6.before.before.before.before in let c8 = c7.before.before.before.before.before.before.before.before.before.before.before in expands_halves c8.requires.1 c7.if-p-wave.false c8.args.wave.goals (made-node c8.requires.1) c6.bit-side.ensures c5.step-low.ensures c3.step-high.ensures c4.expand-more.ensures.0
     c2.expand-most.ensures.0 (made-small c8.requires.1) (lower-few c8.requires.1) c2.expand-most.ensures.1 c1.join.ensures
     c.put_spent.ensures))
