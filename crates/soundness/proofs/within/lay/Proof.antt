@@ -18,9 +18,9 @@ pub lay_spec : {M : Type 1} → statement M
 lay_spec =
     tie.close
     (tie.spec
-    (λ c κs. let c1 = c.before.before.before in (c1.requires.lists.good, c1.requires.arrow, c1.requires.is_row_lem, c1.requires.shift))
+    (λ c κs. let c1 = c.before.before.before in (c1.requires.lists.good, c1.requires.arrow, c1.requires.is_row, c1.requires.shift))
     (λ c κs. let c1 = c.before.before.before.before in let r = row_at (view c1.args.rows c1.args.words.now) _
-    c1.requires.lists.good c1.requires.arrow c1.requires.is_row_lem in (c1.requires.is_row_lem, r.row, c1.requires.lists.good.sizes.room))
+    c1.requires.lists.good c1.requires.arrow c1.requires.is_row in (c1.requires.is_row, r.row, c1.requires.lists.good.sizes.room))
     (λ c κs. let c1 = c.before.before.before.before.before.before.before in let o = c1.requires.lists.order.2 in
     let m = c1.requires.room in (c1.requires.lists, omega arith, omega arith, omega arith))
     (λ c κs. let c1 = c.before.before.before.before.before.before.before in

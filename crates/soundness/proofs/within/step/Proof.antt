@@ -18,7 +18,7 @@ step_spec =
     (λ c κs. let c1 = c.before.before.before.before.before in let o = c1.requires.lists.order in let o1 = o.1 in
     let z = c1.requires.lists.room.0 in let y = c1.requires.room in (c1.requires.size, o.0, omega arith))
     (λ c κs. let c1 = c.before.before.before.before.before.before.before.before in
-    (c1.requires.lists.good, c1.requires.arrow, c1.requires.is_row_lem, c1.requires.shift))
+    (c1.requires.lists.good, c1.requires.arrow, c1.requires.is_row, c1.requires.shift))
     (λ c κs. let c1 = c.before.before.before.before in let c2 = c1.before.before.before.before.before.before in
     least-asked c2.requires c1.keep_all_open-last.ensures c.top_of.ensures c1.keep_all_open-last.auto.1.1.1.1.0)
     (λ c κs. let c1 = c.before.before.before.before in let c2 = c1.before.before.before in

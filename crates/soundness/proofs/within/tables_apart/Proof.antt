@@ -32,7 +32,7 @@ tables_apart_spec =
     (tie.spec
     invariant_loop
     decreases_loop
-    (λ c κs. c.requires.is_row_lem)
+    (λ c κs. c.requires.is_row)
     (λ c κs. table-second c.requires)
     (λ c. let c1 = c.before.before.before.before.before.before.before.before.before in (
       omega arith,
