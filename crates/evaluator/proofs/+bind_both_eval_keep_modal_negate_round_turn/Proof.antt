@@ -447,15 +447,15 @@ pub +bind_both_eval_keep_modal_negate_round_turn_spec : {M : Type 1} → stateme
           ),
       (
         elim c.match-t.branch [
-          in-Both+in-Until w ↦ until-asked
-            c.requires.1.0
-            c.lead_at.ensures
-            c.in-Is.is (w.in-Both.is ∙ ap Both w.in-Until.is) w.body-is
-            w.until_body.ensures
+          | in-Both+in-Until w ↦ until-asked
+              c.requires.1.0
+              c.lead_at.ensures
+              c.in-Is.is (w.in-Both.is ∙ ap Both w.in-Until.is) w.body-is
+              w.until_body.ensures
           | in-Binder w ↦ bind-asked
-            c.requires.1.0
-            c.lead_at.ensures
-            c.in-Is.is w.in-Binder.is w.body-is
+              c.requires.1.0
+              c.lead_at.ensures
+              c.in-Is.is w.in-Binder.is w.body-is
         ],
         c.requires.1.1,
       ),
@@ -465,17 +465,17 @@ pub +bind_both_eval_keep_modal_negate_round_turn_spec : {M : Type 1} → stateme
     (λ c. search rules)
     (λ c. (
       elim c.match-t.branch [
-        in-Both+in-Until w ↦ until-answered
-          c.requires.1.0
-          c.lead_at.ensures
-          c.in-Is.is
-          (w.in-Both.is ∙ ap Both w.in-Until.is) w.body-is w.until_body.ensures
-          c.bind.ensures.0
+        | in-Both+in-Until w ↦ until-answered
+            c.requires.1.0
+            c.lead_at.ensures
+            c.in-Is.is
+            (w.in-Both.is ∙ ap Both w.in-Until.is) w.body-is w.until_body.ensures
+            c.bind.ensures.0
         | in-Binder w ↦ bind-answered
-          c.requires.1.0
-          c.lead_at.ensures
-          c.in-Is.is w.in-Binder.is w.body-is
-          c.bind.ensures.0
+            c.requires.1.0
+            c.lead_at.ensures
+            c.in-Is.is w.in-Binder.is w.body-is
+            c.bind.ensures.0
       ],
       c.bind.ensures.1,
     )))
