@@ -12,7 +12,7 @@ START = {'args', 'requires', 'ranges', 'lifetimes', 'well_formed', 'type_inv', '
 
 
 def norm(name):
-    return re.sub(r'_lem$', '', name).replace('-', '_')
+    return re.sub(r'_lem$', '', name).replace('-', '_').lower()
 
 
 class Function:

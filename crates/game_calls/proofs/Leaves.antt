@@ -39,7 +39,7 @@ use Rattle.game_steps.specs.declared.Asked.{Asked}
 use Rattle.game_steps.specs.declared.Iterated.{Iterated}
 use Rattle.game_steps.specs.declared.Iterated.TheVariants as iterated
 use Rattle.game_steps.specs.Iterate.{AnswerNoted}
-use Rattle.game_steps.specs.Whole.{Given, RoundsPre, RoundsPost, RoundsSay, is_made, is-full, is_spent_lem}
+use Rattle.game_steps.specs.Whole.{Given, RoundsPre, RoundsPost, RoundsSay, is_made, is-full, is_spent}
 use Rattle.layers.proofs.Pass.{set_holds}
 use Rattle.game_steps.proofs.Standing.{pair-holds, place-holds}
 use Rattle.game_calls.specs.declared.Response.{Response}
@@ -138,7 +138,7 @@ module _ (k : ℕ) (G M : Pairs) (B : List Bool) (s t n : ℕ) (e : k ≡ 2 ^ n)
   pub reply-is : {v : Verdict} {w : Iterated} → RoundsSay (AnswerNoted k G M B s t) v w
       → response_reply (response_of n w) ≡ verdict_reply v (answerable k G M B s t) (answer_to k G M B s t)
   reply-is is-full = refl
-  reply-is is_spent_lem = refl
+  reply-is is_spent = refl
   reply-is (is_made {q = p} {x = x} h) = made-is p x h (answerable k G M B s t) refl
 
 -- ---- the second call after its checks

@@ -59,7 +59,7 @@ use Rattle.games.specs.Game.{forcing, forced, set_after}
 use Rattle.games.specs.Call.{body_form}
 use Rattle.games.proofs.Rounds.{Noted, noted-none, noting, noted-next, made_none, made_found, after-size, after-found, still-below}
 use Rattle.games.proofs.Formula.{body-steady, body-means}
-use Rattle.game_steps.specs.Iterate.{note_by, NotePre, halted_of, HoldsGame, IteratePre, AnswerNoted, AnswerOf, is_made, is-full, is_spent_lem}
+use Rattle.game_steps.specs.Iterate.{note_by, NotePre, halted_of, HoldsGame, IteratePre, AnswerNoted, AnswerOf, is_made, is-full, is_spent}
 use Rattle.game_steps.specs.Iterate.{Iterates}
 use Rattle.game_steps.specs.Iterate.{IteratePost}
 use Rattle.game_steps.specs.declared.Asked.{Asked}
@@ -188,7 +188,7 @@ module _ {L : Limits} {W : View} {stack bs : List ℕ} {a : Asked} {σ : Scene} 
 
     -- the rounds are used up
     pub iterate_out : L.rounds ≤ count.rounds → Iterates L W X stack a σ goal guest machine iterated.Spent
-    iterate_out l = record { value = Spent; last = now; answers = bind_out P.ready S.bound 12 l; told = is_spent_lem }
+    iterate_out l = record { value = Spent; last = now; answers = bind_out P.ready S.bound 12 l; told = is_spent }
 
     module _ {Y : View} {last : List ℕ} {r : Evaluated}
         (E : OncePost L X Y now last bs current count r) (more : count.rounds < L.rounds) where
@@ -207,7 +207,7 @@ module _ {L : Limits} {W : View} {stack bs : List ℕ} {a : Asked} {σ : Scene} 
           go : (r : Evaluated) → Halts r → AnswerOf (AnswerNoted k G M B a.state a.press) r (halted_of r)
           go (Value b j q) h = absurd (⊎_elim (λ x. omega arith) (λ x. omega arith) h)
           go Full h = is-full
-          go Spent h = is_spent_lem
+          go Spent h = is_spent
 
       module _ {b j : ℕ} {q : Count} (is : r ≡ Value b j q) where
         evals : EvalsBy (fn_of L.bits) L.bits L.rows (rows_of X) (rows_of Y) (current ∷ σ.roots) (run_in true L σ' f

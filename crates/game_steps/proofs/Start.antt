@@ -41,8 +41,8 @@ use Rattle.games.specs.Call.{body_form, game_form}
 use Rattle.games.proofs.Formula.{body-read, body-bound, game_steady}
 use Rattle.games.proofs.Call.{filled-all}
 use Rattle.game_steps.specs.Iterate.{HoldsGame, IteratePre, IteratePost, AnswerNoted, AnswerOf}
-use Rattle.game_steps.specs.Iterate.{is_made as value_made, is-full as value-full, is_spent_lem as value-spent}
-use Rattle.game_steps.specs.Whole.{Given, RoundsPre, RoundsPost, RoundsSay, is_made, is-full, is_spent_lem}
+use Rattle.game_steps.specs.Iterate.{is_made as value_made, is-full as value-full, is_spent as value-spent}
+use Rattle.game_steps.specs.Whole.{Given, RoundsPre, RoundsPost, RoundsSay, is_made, is-full, is_spent}
 use Rattle.game_steps.specs.declared.Asked.{Asked}
 use Rattle.game_steps.specs.declared.Iterated.{Iterated}
 
@@ -57,7 +57,7 @@ says-verdict lv n rows A full value-full m = is-full
 says-verdict lv n rows A spent value-full m = absurd m
 says-verdict lv n rows A (counted q) value-spent m = absurd m
 says-verdict lv n rows A full value-spent m = absurd m
-says-verdict lv n rows A spent value-spent m = is_spent_lem
+says-verdict lv n rows A spent value-spent m = is_spent
 
 module _ {L : Limits} {W : View} {bs : List ℕ} {a : Asked} (p : RoundsPre L W bs a) {X : View} (f : Forgot W X) where
   pub rounds-begin : Sound X

@@ -75,7 +75,7 @@ pub record AnswerNoted (k : ℕ) (G M : Pairs) (B : List Bool) (s t x : ℕ) : T
 pub data AnswerOf (P : ℕ → Type 0) : Evaluated → Iterated → Type 0 where
   is_made : {a e x : ℕ} {q : Count} → P x → AnswerOf P (answer.Value a e q) (iterated.Made x)
   is-full : AnswerOf P answer.Full iterated.Full
-  is_spent_lem : AnswerOf P answer.Spent iterated.Spent
+  is_spent : AnswerOf P answer.Spent iterated.Spent
 
 -- the rounds are those of the game's formula
 pub record Iterates (L : Limits) (W X : View) (stack : List ℕ) (a : Asked) (σ : Scene) (goal guest machine : ℕ)

@@ -50,7 +50,7 @@ pub record RoundsPre (L : Limits) (W : View) (bs : List ℕ) (a : Asked) : Type 
 pub data RoundsSay (P : ℕ → Type 0) : Verdict → Iterated → Type 0 where
   is_made : {q : Count} {x : ℕ} → P x → RoundsSay P (counted q) (iterated.Made x)
   is-full : RoundsSay P full iterated.Full
-  is_spent_lem : RoundsSay P spent iterated.Spent
+  is_spent : RoundsSay P spent iterated.Spent
 
 -- a sound table, nothing touched but unneeded rows, the index and remembered results, and the book's verdict
 pub record Rounds (L : Limits) (W X : View) (a : Asked) (goal guest machine : ℕ) (r : Iterated) : Type 0 where

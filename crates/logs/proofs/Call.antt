@@ -64,4 +64,5 @@ module _ (bk : Book) (t : ℕ) (one two list : List ℕ) (f : T (logs_fit (lengt
         go : {R : Pairs} (o : Option Pairs) → o ≡ some R
             → logged_over bk o one two list
             ≡ log_ends (log_outcome bk.n bk.N (live_of bk) (inside o) bk.valid (moment_at one two) (last_moment one) (length list)) list
-        go {R} o e = rw e refl
+        go none e = cc
+        go (some S) e = refl

@@ -22,7 +22,7 @@ row_at {rows} a u h e = record { leads = row_is a h ∙ ap suc (sym e); used = o
 
 -- as the code finds it
 pub reaches : {rows : Rows} {i l x : ℕ} (a : ℕ) → is_row a ≡ true → i ≡ row_of a → l ≡ rows.level i → l ≤ x → ReachesLevel rows x a
-reaches {rows} a h q e t = record { is_row_lem = h; upto = let z = e ∙ ap rows.level q in omega arith }
+reaches {rows} a h q e t = record { is_row = h; upto = let z = e ∙ ap rows.level q in omega arith }
 
 pub reached : {rows : Rows} {x a i l lo hi : ℕ} → ReachesLevel rows x a → i ≡ row_of a → RowIs rows a i l lo hi → l ≤ x
 reached {rows} p q n = let z = n.level ∙ ap rows.level q in let t = p.upto in omega arith

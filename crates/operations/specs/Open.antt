@@ -11,5 +11,5 @@ pub record RowIs (rows : Rows) (a i l lo hi : ℕ) : Type 0 where
 
 -- a leads to a row of a level up to x
 pub record ReachesLevel (rows : Rows) (x a : ℕ) : Type 0 where
-  pub is_row_lem : is_row a ≡ true
+  pub is_row : is_row a ≡ true
   pub upto : rows.level (row_of a) ≤ x

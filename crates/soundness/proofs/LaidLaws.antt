@@ -82,7 +82,7 @@ module _ {W : View} {s l b top b0 b1 : ℕ} {list found : List ℕ} {from to end
     (t : top ≡ level_of (2 * W.header BITS) (rows_of W) b + s) (h : Halved (rows_of W) b top l b0 b1) where
   pub second-half : Half (2 * W.header BITS) (rows_of W) s l b b0 b1
   second-half =
-      let r = row_at W b p.lists.good p.arrow p.is_row_lem in
+      let r = row_at W b p.lists.good p.arrow p.is_row in
       let e = r.level in
       let z = p.level in
       half_of_lem p.lists.good r p.arrow (omega arith) h (omega arith)

@@ -214,7 +214,7 @@ set_found {W} {base} {s} {b} {w} {memo} k p e f =
     record {
       shown = subst (λ (x : ℕ). Shown (2 * W.header BITS) (rows_of W) base s s b x false) (sym e)
           (subst (λ (x : ℕ). Shown (2 * W.header BITS) (rows_of W) base s s x (get_or memo k 0) false) g
-          (p.sets.at k (λ z. let t = row_is b p.is_row_lem in let u : b ≡ 0 = sym g ∙ z in omega arith)));
+          (p.sets.at k (λ z. let t = row_is b p.is_row in let u : b ≡ 0 = sym g ∙ z in omega arith)));
       sets = p.sets;
     }
 

@@ -52,7 +52,7 @@ table-second p =
     let h = p.lists.last in
     record {
       asked = record { good = p.good; low-base = omega arith; shift = p.shift; arrow = p.against.arrow };
-      is_row_lem = p.is_row_lem;
+      is_row = p.is_row;
       size = p.lists.room.1;
       sets = p.lists.second;
     }
@@ -110,7 +110,7 @@ module _ {W : View} {s base level b from to end : ℕ} {list found memo xs ys : 
         shift = p.asks.shift;
         lists = p.asks.lists;
         against = p.against;
-        is_row_lem = n;
+        is_row = n;
         deep = d;
         order = o.0;
         within = omega arith;
@@ -144,7 +144,7 @@ module _ {W : View} {s base level b from to end : ℕ} {list found memo xs ys : 
         size = p.asks.size;
         shift = sh;
         arrow = p.against.arrow;
-        is_row_lem = u;
+        is_row = u;
         shallow = omega arith;
       }
 
@@ -178,7 +178,7 @@ module _ {W : View} {s b from to end last top : ℕ} {list found memo list1 : Li
         room = p.room;
         shift = p.shift;
         arrow = p.arrow;
-        is_row_lem = p.is_row_lem;
+        is_row = p.is_row;
         level = omega arith;
         shallow = omega arith;
       }

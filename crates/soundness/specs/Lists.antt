@@ -136,7 +136,7 @@ pub record LayPre (W : View) (s l b : ℕ) (list found : List ℕ) (from to end 
   pub room : end + 2 * MANY ≤ ROOM
   pub shift : s ≤ 1
   pub arrow : Arrow (rows_of W) b
-  pub is_row_lem : is_row b ≡ true
+  pub is_row : is_row b ≡ true
   pub level : l ≤ level_of (2 * W.header BITS) (rows_of W) b + s
   pub shallow : l < 2 * W.header BITS
 
@@ -147,7 +147,7 @@ pub record StepPre (W : View) (s b : ℕ) (list found : List ℕ) (from to end :
   pub size : length memo ≡ PAIR_WORDS
   pub shift : s ≤ 1
   pub arrow : Arrow (rows_of W) b
-  pub is_row_lem : is_row b ≡ true
+  pub is_row : is_row b ≡ true
   pub shallow : level_of (2 * W.header BITS) (rows_of W) b + s < 2 * W.header BITS
 
 -- what it leaves: a list that keeps some of the arrows is laid out at a level l, from which on all are; `next` is the one after
@@ -166,7 +166,7 @@ pub record TablesPre (W : View) (s base b : ℕ) (list : List ℕ) (from to : �
   pub shift : s ≤ 1
   pub lists : Lists W s base xs ys
   pub against : Against W b
-  pub is_row_lem : is_row b ≡ true
+  pub is_row : is_row b ≡ true
   pub deep : Deep W base b
   pub order : from ≤ to
   pub within : to ≤ length list

@@ -41,7 +41,7 @@ pub record SetPre (W : View) (base s b : ℕ) : Type 0 where
 
 pub record SetsPre (W : View) (base s b : ℕ) (memo : List ℕ) : Type 0 where
   pub asked : SetPre W base s b
-  pub is_row_lem : is_row b ≡ true
+  pub is_row : is_row b ≡ true
   pub size : length memo ≡ SETS
   pub sets : Sets W base s memo
 

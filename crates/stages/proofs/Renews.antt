@@ -32,11 +32,11 @@ module _ {m N limit : ℕ} {W : View} {seen : List ℕ} {a : ℕ} (p : RenewPre 
   -- an arrow to row i, and what is followed from it, each in the table that the one before left
   module _ {i : ℕ} (h : is_row a ≡ true) (ei : i ≡ row_of a) where
     pub renew-row : (i < W.rows) × (words_for W.rows ≤ W.size)
-    renew-row = (p.ready.good.rows.bounded i (row_at a p.arrow h ei).used, p.ready.good.sizes.room)
+    renew-row = (p.ready.good.rows.bounded i (row_at {rows = rows_of W} a p.arrow h ei).used, p.ready.good.sizes.room)
 
     module _ {l lo hi t : ℕ} (n : RowIs (rows_of W) a i l lo hi) (q : depth m (rows_of W) a ≡ t) where
       open_at : Opened m (rows_of W) a i l lo hi
-      open_at = opened (ready-wf p.ready) (row_at a p.arrow h ei) n
+      open_at = opened (ready-wf p.ready) (row_at {rows = rows_of W} a p.arrow h ei) n
 
       pub renew-low : (depth m (rows_of W) lo < t) × RenewPre m N limit W seen lo
       renew-low = (

@@ -89,7 +89,7 @@ pub arrow_in : {m N limit : ℕ} {W : View} (k : ℕ) → Ready m N limit W → 
 arrow_in k r h a u = let l = arrow-below a (target a) refl r.good.rows u in let e = r.rows_is in omega (arith, l, e, h)
 
 -- what is followed from a part is followed from the arrow, and lies no higher
-follows_part : {rows : Rows} {a i c : ℕ} (b : Bool) → Leads a i → Follows rows (follow rows a i b) c → Follows rows a c
+follows_part : {rows : Rows} {a i : ℕ} (b : Bool) {c : ℕ} → Leads a i → Follows rows (follow rows a i b) c → Follows rows a c
 follows_part b l self = on b self l
 follows_part b l (on d t k) = on d (follows_part b l t) k
 

@@ -15,8 +15,8 @@ invariant_loop states n k₀ k = (i : ℕ) → i < k → get_or states i 0 < 2 ^
 abbrev decreases_loop : tie.decreases-loop-k
 decreases_loop states n k₀ k = length states - k
 
-pub in-range-spec : {M : Type 1} → statement M
-in-range-spec =
+pub in_range_spec : {M : Type 1} → statement M
+in_range_spec =
     tie.close
     (tie.spec
     invariant_loop

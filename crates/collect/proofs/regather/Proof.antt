@@ -11,6 +11,7 @@ use Rattle.collect.specs.Gather.{Part}
 use Rattle.collect.proofs.GatherLaws.{part-zero, next_row, next-room, next-keep, next-skip}
 use Rattle.rows.specs.Bits.{On}
 use Rattle.collect.proofs.regather.Statement.{statement}
+use Rattle.collect.proofs.regather.Lts.{then-marked, else-marked}
 use Rattle.collect.proofs.regather.Tie as tie
 
 abbrev invariant_loop : tie.invariant-loop-k
@@ -45,16 +46,14 @@ regather_spec =
     let p = c.requires in
     let e = c.listed-i.ensures in let m = c.marked.ensures in (
       omega arith,
-      ⊎_elim
-          (λ w. ap length w.5 ∙ w.2.kept.0 ∙ v.1)
-          (λ w. ap length w.1 ∙ v.1)
-          c.if-marked.branch,
-      ⊎_elim
-          (λ w. next-keep p v.2 t e (sym m ∙ w.0.taken)
-          (ap (view c.args.rows) w.5 ∙ w.2.ensures))
-          (λ w. next-skip p v.2 t e (λ o. true≢false (sym o ∙ sym m ∙ w.0.left))
-          (ap (view c.args.rows) w.1))
-          c.if-marked.branch,
+      elim c.if-marked.branch [
+        | then-marked w ↦ ap length w.words-is ∙ w.append.auto.words ∙ v.1
+        | else-marked w ↦ ap length w.words-is ∙ v.1
+      ],
+      elim c.if-marked.branch [
+        | then-marked w ↦ next-keep p v.2 t e (sym m ∙ w.if-marked.true) (ap (view c.args.rows) w.words-is ∙ w.append.ensures)
+        | else-marked w ↦ next-skip p v.2 t e (λ o. true≢false (sym o ∙ sym m ∙ w.if-marked.false)) (ap (view c.args.rows) w.words-is)
+      ],
     ))
     (λ c. c.loop-k.invariant.1)
     (λ c. let v = c.loop-k.invariant in

@@ -5,8 +5,8 @@ use Rattle.game_calls.proofs.in_range.Tie as tie
 use Rattle.game_calls.proofs.in_range.Reads as reads
 use Rattle.game_calls.proofs.in_range.Lts as lts
 
-pub in-range-spec : {M : Type 1} → statement M
-in-range-spec =
+pub in_range_spec : {M : Type 1} → statement M
+in_range_spec =
     tie.close
     (tie.spec
     (λ c. range-goal c.args.goal c.args.guest c.args.machine c.if-goal-ge-REGISTERS.true)

@@ -91,17 +91,17 @@ pub +exists_part_exists_row_spec : {M : Type 1} → statement M
     exists-row.Post
     (λ c κs. c.requires.1.3.is_row)
     (λ c κs. let r = c.requires.1.0 in
-    let R = row_at _ c.requires.1.1 c.requires.1.3.is_row
+    let R = row_at {rows = rows_of (view c.args.rows c.args.words.now)} _ c.requires.1.1 c.requires.1.3.is_row
     c.row_of-i.ensures in ((ready-wf r).bounded _ R.used, r.good.sizes.room))
     (λ c. let r = c.requires.1.0 in
     let e = r.levels-is in let n = r.good.sizes.n_max in let h = c.requires.1.2 in omega arith)
     (λ c κs. let r = c.requires.1.0 in
-    let R = row_at _ c.requires.1.1
+    let R = row_at {rows = rows_of (view c.args.rows c.args.words.now)} _ c.requires.1.1
     c.requires.1.3.is_row
     c.row_of-i.ensures in
-    let o = opened (ready-wf r) R c.before.before.before.Node-at.ensures in (r, o.parts.low-arrow, o.parts.high-arrow))
+    let o = opened (ready-wf r) R c.node_at-n.ensures in (r, o.parts.low-arrow, o.parts.high-arrow))
     (λ c κs. let r = c.requires.1.0 in
-    let R = row_at _ c.requires.1.1
+    let R = row_at {rows = rows_of (view c.args.rows c.args.words.now)} _ c.requires.1.1
     c.requires.1.3.is_row
     c.row_of-i.ensures in (
       (ready-wf r).bounded _ R.used,
@@ -113,11 +113,11 @@ pub +exists_part_exists_row_spec : {M : Type 1} → statement M
     (λ c. search rules)
     (λ c. let r =
     c.requires.1.0 in
-    let R = row_at _
+    let R = row_at {rows = rows_of (view c.args.rows c.args.words.now)} _
     c.requires.1.1
     c.requires.1.3.is_row c.row_of-i.ensures in
     let o = opened (ready-wf r) R
-    c.before.before.before.before.before.before.before.before.before.before.Node-at.ensures in
+    c.node_at-n.ensures in
     exists-kept r _ R _
     (let e = r.levels-is in
     let n = r.good.sizes.n_max in
@@ -127,30 +127,30 @@ pub +exists_part_exists_row_spec : {M : Type 1} → statement M
     (rw c.if-n-x.true at
     (exists-own r o c.or_of-made.ensures)) c.remember_row.ensures)
     (λ c κs. let r = c.requires.1.0 in
-    let R = row_at _ c.requires.1.1
+    let R = row_at {rows = rows_of (view c.args.rows c.args.words.now)} _ c.requires.1.1
     c.requires.1.3.is_row
     c.row_of-i.ensures in
-    let o = opened (ready-wf r) R c.before.before.before.Node-at.ensures in (
+    let o = opened (ready-wf r) R c.node_at-n.ensures in (
       rw (← c.requires.0) (part_falls _ _ (low-falls o)),
       (r, o.parts.low-arrow, c.requires.1.2),
     ))
     (λ c. search rules)
     (λ c. let r = c.requires.1.0 in
-    let R = row_at _ c.requires.1.1
+    let R = row_at {rows = rows_of (view c.args.rows c.args.words.now)} _ c.requires.1.1
     c.requires.1.3.is_row
     c.row_of-i.ensures in
-    let o = opened (ready-wf r) R c.before.before.before.before.before.before.before.Node-at.ensures in
+    let o = opened (ready-wf r) R c.node_at-n.ensures in
     let D = exists-calls r o _
     (let t = reached c.requires.1.3
     c.row_of-i.ensures
-    c.before.before.before.before.before.before.before.Node-at.ensures in
+    c.node_at-n.ensures in
     let u = c.if-n-x.false in omega arith) in
     low_stops r D c.if-low.true c.exists_part-low.ensures)
     (λ c κs. let r = c.requires.1.0 in
-    let R = row_at _ c.requires.1.1
+    let R = row_at {rows = rows_of (view c.args.rows c.args.words.now)} _ c.requires.1.1
     c.requires.1.3.is_row
     c.row_of-i.ensures in
-    let o = opened (ready-wf r) R c.before.before.before.before.before.before.before.before.Node-at.ensures in
+    let o = opened (ready-wf r) R c.node_at-n.ensures in
     let w = c.exists_part-low.ensures in (
       rw (← c.requires.0)
           (part_falls _ _ (high-falls o w.post.kept)),
@@ -163,43 +163,43 @@ pub +exists_part_exists_row_spec : {M : Type 1} → statement M
     (λ c. search rules)
     (λ c. let r =
     c.requires.1.0 in let R =
-    row_at _
+    row_at {rows = rows_of (view c.args.rows c.args.words.now)} _
     c.requires.1.1
     c.requires.1.3.is_row
     c.row_of-i.ensures in
     let o = opened (ready-wf r) R
-    c.before.before.before.before.before.before.before.before.before.before.before.before.Node-at.ensures in
+    c.node_at-n.ensures in
     let D = exists-calls r o _
     (let t =
     reached
     c.requires.1.3
     c.row_of-i.ensures
-    c.before.before.before.before.before.before.before.before.before.before.before.before.Node-at.ensures in
+    c.node_at-n.ensures in
     let u = c.if-n-x.false in omega arith) in
     high_stops r D c.if-low.false
     c.exists_part-low.ensures c.if-high.true
     c.exists_part-high.ensures)
     (λ c κs. let r =
     c.requires.1.0 in let R =
-    row_at _
+    row_at {rows = rows_of (view c.args.rows c.args.words.now)} _
     c.requires.1.1
     c.requires.1.3.is_row
     c.row_of-i.ensures in
     let o = opened (ready-wf r) R
-    c.before.before.before.before.before.before.before.before.before.before.before.before.before.Node-at.ensures in
+    c.node_at-n.ensures in
     let D = exists-calls r o _
     (let t =
     reached
     c.requires.1.3
     c.row_of-i.ensures
-    c.before.before.before.before.before.before.before.before.before.before.before.before.before.Node-at.ensures in
+    c.node_at-n.ensures in
     let u = c.if-n-x.false in omega arith) in
     row-pre r D c.if-low.false
     c.exists_part-low.ensures c.if-high.false
     c.exists_part-high.ensures)
     (λ c κs. let r =
     c.requires.1.0 in let R =
-    row_at _
+    row_at {rows = rows_of (view c.args.rows c.args.words.now)} _
     c.requires.1.1
     c.requires.1.3.is_row
     c.row_of-i.ensures in (
@@ -213,18 +213,18 @@ pub +exists_part_exists_row_spec : {M : Type 1} → statement M
     (λ c. search rules)
     (λ c. let r =
     c.requires.1.0 in let R =
-    row_at _
+    row_at {rows = rows_of (view c.args.rows c.args.words.now)} _
     c.requires.1.1
     c.requires.1.3.is_row
     c.row_of-i.ensures in
     let o = opened (ready-wf r) R
-    c.before.before.before.before.before.before.before.before.before.before.before.before.before.before.before.before.before.before.before.before.Node-at.ensures in
+    c.node_at-n.ensures in
     let D = exists-calls r o _
     (let t =
     reached
     c.requires.1.3
     c.row_of-i.ensures
-    c.before.before.before.before.before.before.before.before.before.before.before.before.before.before.before.before.before.before.before.before.Node-at.ensures in
+    c.node_at-n.ensures in
     let u =
     c.if-n-x.false in omega arith) in
     exists-kept r _ R _

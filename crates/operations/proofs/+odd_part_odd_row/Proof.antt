@@ -83,25 +83,25 @@ pub +odd_part_odd_row_spec : {M : Type 1} → statement M
     odd-row.Post
     (λ c κs. c.requires.1.2)
     (λ c κs. let r = c.requires.1.0 in
-    let R = row_at _ c.requires.1.1 c.requires.1.2 c.row_of-i.ensures in
+    let R = row_at {rows = rows_of (view c.args.rows c.args.words.now)} _ c.requires.1.1 c.requires.1.2 c.row_of-i.ensures in
     ((ready-wf r).bounded _ R.used, r.good.sizes.room))
     (λ c κs. let r = c.requires.1.0 in
-    let R = row_at _ c.requires.1.1 c.requires.1.2
+    let R = row_at {rows = rows_of (view c.args.rows c.args.words.now)} _ c.requires.1.1 c.requires.1.2
     c.row_of-i.ensures in
-    let o = opened (ready-wf r) R c.before.Node-at.ensures in
+    let o = opened (ready-wf r) R c.node_at-n.ensures in
     (rw (← c.requires.0) (part_falls _ _ (low-falls o)), (r, o.parts.low-arrow)))
     (λ c. search rules)
     (λ c. let r = c.requires.1.0 in
-    let R = row_at _ c.requires.1.1
+    let R = row_at {rows = rows_of (view c.args.rows c.args.words.now)} _ c.requires.1.1
     c.requires.1.2
     c.row_of-i.ensures in
-    let o = opened (ready-wf r) R c.before.before.before.before.before.Node-at.ensures in
+    let o = opened (ready-wf r) R c.node_at-n.ensures in
     odd_low_stops r o c.odd_part-low.ensures)
     (λ c κs. let r = c.requires.1.0 in
-    let R = row_at _ c.requires.1.1
+    let R = row_at {rows = rows_of (view c.args.rows c.args.words.now)} _ c.requires.1.1
     c.requires.1.2
     c.row_of-i.ensures in
-    let o = opened (ready-wf r) R c.before.before.before.before.before.before.Node-at.ensures in
+    let o = opened (ready-wf r) R c.node_at-n.ensures in
     let w = c.odd_part-low.ensures in (
       rw (← c.requires.0)
           (part_falls _ _ (high-falls o w.grown.kept)),
@@ -110,32 +110,32 @@ pub +odd_part_odd_row_spec : {M : Type 1} → statement M
     (λ c. search rules)
     (λ c. let r =
     c.requires.1.0 in
-    let R = row_at _
+    let R = row_at {rows = rows_of (view c.args.rows c.args.words.now)} _
     c.requires.1.1
     c.requires.1.2
     c.row_of-i.ensures in
     let o = opened (ready-wf r) R
-    c.before.before.before.before.before.before.before.before.before.before.Node-at.ensures in
+    c.node_at-n.ensures in
     odd_high_stops r o c.if-low.false
     c.odd_part-low.ensures
     c.odd_part-high.ensures)
     (λ c κs. let r =
     c.requires.1.0 in let R =
-    row_at _
+    row_at {rows = rows_of (view c.args.rows c.args.words.now)} _
     c.requires.1.1 c.requires.1.2 c.row_of-i.ensures in
     let o = opened (ready-wf r) R
-    c.before.before.before.before.before.before.before.before.before.before.before.Node-at.ensures in
+    c.node_at-n.ensures in
     odd_join-pre r o c.if-low.false
     c.odd_part-low.ensures c.if-high.false
     c.odd_part-high.ensures)
     (λ c κs. let r =
     c.requires.1.0 in let R =
-    row_at _
+    row_at {rows = rows_of (view c.args.rows c.args.words.now)} _
     c.requires.1.1
     c.requires.1.2
     c.row_of-i.ensures in
     let o = opened (ready-wf r) R
-    c.before.before.before.before.before.before.before.before.before.before.before.before.before.before.before.Node-at.ensures in
+    c.node_at-n.ensures in
     let w = odd-joined r o c.if-low.false
     c.odd_part-low.ensures
     c.if-high.false
@@ -144,12 +144,12 @@ pub +odd_part_odd_row_spec : {M : Type 1} → statement M
     (λ c. search rules)
     (λ c. let r =
     c.requires.1.0 in let R =
-    row_at _
+    row_at {rows = rows_of (view c.args.rows c.args.words.now)} _
     c.requires.1.1
     c.requires.1.2
     c.row_of-i.ensures in
     let o = opened (ready-wf r) R
-    c.before.before.before.before.before.before.before.before.before.before.before.before.before.before.before.before.before.before.Node-at.ensures in
+    c.node_at-n.ensures in
     odd-kept r o c.if-low.false
     c.odd_part-low.ensures c.if-high.false
     c.odd_part-high.ensures _

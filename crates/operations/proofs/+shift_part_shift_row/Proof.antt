@@ -102,32 +102,32 @@ pub +shift_part_shift_row_spec : {M : Type 1} → statement M
     shift-row.Post
     (λ c κs. c.requires.1.3)
     (λ c κs. let r = c.requires.1.0 in
-    let R = row_at _ c.requires.1.1 c.requires.1.3 c.row_of-i.ensures in
+    let R = row_at {rows = rows_of (view c.args.rows c.args.words.now)} _ c.requires.1.1 c.requires.1.3 c.row_of-i.ensures in
     ((ready-wf r).bounded _ R.used, r.good.sizes.room))
     (λ c κs. let r = c.requires.1.0 in
-    let R = row_at _ c.requires.1.1 c.requires.1.3
+    let R = row_at {rows = rows_of (view c.args.rows c.args.words.now)} _ c.requires.1.1 c.requires.1.3
     c.row_of-i.ensures in
-    let o = opened (ready-wf r) R (plain-is _ c.requires.1.4 c.before.Node-at.ensures) in (
+    let o = opened (ready-wf r) R (plain-is _ c.requires.1.4 c.node_at-n.ensures) in (
       rw (← c.requires.0) (part_falls _ _ (low-falls o)),
       (r, o.parts.low-arrow, shift-low r o c.requires.1.2),
     ))
     (λ c. search rules)
     (λ c. let r = c.requires.1.0 in
-    let R = row_at _ c.requires.1.1
+    let R = row_at {rows = rows_of (view c.args.rows c.args.words.now)} _ c.requires.1.1
     c.requires.1.3
     c.row_of-i.ensures in
     let o = opened (ready-wf r) R
     (plain-is _ c.requires.1.4
-    c.before.before.before.before.before.Node-at.ensures) in
+    c.node_at-n.ensures) in
     let D = shift-calls r o c.requires.1.2 in
     low_stops r D c.if-low.true c.shift_part-low.ensures)
     (λ c κs. let r = c.requires.1.0 in
-    let R = row_at _ c.requires.1.1
+    let R = row_at {rows = rows_of (view c.args.rows c.args.words.now)} _ c.requires.1.1
     c.requires.1.3
     c.row_of-i.ensures in
     let o = opened (ready-wf r) R
     (plain-is _ c.requires.1.4
-    c.before.before.before.before.before.before.Node-at.ensures) in
+    c.node_at-n.ensures) in
     let w = c.shift_part-low.ensures in (
       rw (← c.requires.0)
           (part_falls _ _ (high-falls o w.post.kept)),
@@ -140,14 +140,14 @@ pub +shift_part_shift_row_spec : {M : Type 1} → statement M
     (λ c. search rules)
     (λ c. let r =
     c.requires.1.0 in
-    let R = row_at _
+    let R = row_at {rows = rows_of (view c.args.rows c.args.words.now)} _
     c.requires.1.1
     c.requires.1.3
     c.row_of-i.ensures in
     let o = opened (ready-wf r) R
     (plain-is _
     c.requires.1.4
-    c.before.before.before.before.before.before.before.before.before.before.Node-at.ensures) in
+    c.node_at-n.ensures) in
     let D = shift-calls r o
     c.requires.1.2 in
     high_stops r D c.if-low.false
@@ -155,25 +155,25 @@ pub +shift_part_shift_row_spec : {M : Type 1} → statement M
     c.shift_part-high.ensures)
     (λ c. let r =
     c.requires.1.0 in let R =
-    row_at _
+    row_at {rows = rows_of (view c.args.rows c.args.words.now)} _
     c.requires.1.1
     c.requires.1.3
     c.row_of-i.ensures in
     let o = opened (ready-wf r) R
     (plain-is _
     c.requires.1.4
-    c.before.before.before.before.before.before.before.before.before.before.before.before.Node-at.ensures) in
+    c.node_at-n.ensures) in
     let h = o.shallow in omega arith)
     (λ c κs. let r =
     c.requires.1.0 in let R =
-    row_at _
+    row_at {rows = rows_of (view c.args.rows c.args.words.now)} _
     c.requires.1.1
     c.requires.1.3
     c.row_of-i.ensures in
     let o = opened (ready-wf r) R
     (plain-is _
     c.requires.1.4
-    c.before.before.before.before.before.before.before.before.before.before.before.before.Node-at.ensures) in
+    c.node_at-n.ensures) in
     let D = shift-calls r o
     c.requires.1.2 in
     row-pre r D c.if-low.false
@@ -181,7 +181,7 @@ pub +shift_part_shift_row_spec : {M : Type 1} → statement M
     c.if-high.false c.shift_part-high.ensures)
     (λ c κs. let r =
     c.requires.1.0 in let R =
-    row_at _
+    row_at {rows = rows_of (view c.args.rows c.args.words.now)} _
     c.requires.1.1
     c.requires.1.3
     c.row_of-i.ensures in
@@ -189,14 +189,14 @@ pub +shift_part_shift_row_spec : {M : Type 1} → statement M
     (λ c. search rules)
     (λ c. let r =
     c.requires.1.0 in let R =
-    row_at _
+    row_at {rows = rows_of (view c.args.rows c.args.words.now)} _
     c.requires.1.1
     c.requires.1.3
     c.row_of-i.ensures in
     let o = opened (ready-wf r) R
     (plain-is _
     c.requires.1.4
-    c.before.before.before.before.before.before.before.before.before.before.before.before.before.before.before.before.before.before.before.Node-at.ensures) in
+    c.node_at-n.ensures) in
     let D = shift-calls r o
     c.requires.1.2 in
     plain-kept r _

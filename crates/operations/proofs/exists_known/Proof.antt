@@ -1,6 +1,8 @@
 -- `exists_known` meets its contract: the function does not read x, or what the row remembers. Assumes nothing.
 use native.Mathlib.Omega.{arith}
 use Rattle.rows.proofs.Says.{test_yes, test_no}
+use Rattle.layout.specs.View.{view}
+use Rattle.rows.specs.Used.{rows_of}
 use Rattle.operations.proofs.Work.{ready-wf}
 use Rattle.operations.proofs.Open.{row_at, reaches}
 use Rattle.operations.proofs.Rows.{exists_constant, exists-past, exists_known_lem}
@@ -17,10 +19,10 @@ exists_known_spec =
     (test_no c.is_row.ensures c.if-not-is_row.true-raw))
     (λ c κs. test_yes c.is_row.ensures c.if-not-is_row.false-raw)
     (λ c κs. let r = c.requires.0 in
-    let R = row_at _ c.requires.1 (test_yes c.is_row.ensures c.if-not-is_row.false-raw)
+    let R = row_at {rows = rows_of (view c.args.rows c.args.words.now)} _ c.requires.1 (test_yes c.is_row.ensures c.if-not-is_row.false-raw)
     c.row_of-i.ensures in ((ready-wf r).bounded _ R.used, omega arith, r.good.sizes.room))
     (λ c. let r = c.requires.0 in
-    let R = row_at _ c.requires.1
+    let R = row_at {rows = rows_of (view c.args.rows c.args.words.now)} _ c.requires.1
     (test_yes c.is_row.ensures c.if-not-is_row.false-raw)
     c.row_of-i.ensures in
     exists-past r _ _ c.requires.1 R c.get-level.ensures
@@ -29,7 +31,7 @@ exists_known_spec =
     let e = r.levels-is in
     let n = r.good.sizes.n_max in let h = c.requires.2 in omega arith)
     (λ c κs. let r = c.requires.0 in
-    let R = row_at _ c.requires.1
+    let R = row_at {rows = rows_of (view c.args.rows c.args.words.now)} _ c.requires.1
     (test_yes c.is_row.ensures c.if-not-is_row.false-raw)
     c.row_of-i.ensures in (
       (ready-wf r).bounded _ R.used,
@@ -38,7 +40,7 @@ exists_known_spec =
           let n = r.good.sizes.n_max in let h = c.requires.2 in omega arith,
     ))
     (λ c. let r = c.requires.0 in
-    let R = row_at _ c.requires.1
+    let R = row_at {rows = rows_of (view c.args.rows c.args.words.now)} _ c.requires.1
     (test_yes c.is_row.ensures c.if-not-is_row.false-raw)
     c.row_of-i.ensures in
     exists_known_lem _ r R

@@ -9,6 +9,6 @@ halve_spec =
     tie.close
     (tie.spec (λ c κs. search rules) (λ c κs. search rules)
     (λ c. halves-past _ _ c.requires.0 c.row_of.ensures
-    c.before.before.Node-at.ensures c.if-n-level.true)
+    c.node_at-n.ensures c.if-n-level.true)
     (λ c. halves-here _ _ c.requires.0 c.row_of.ensures
-    c.before.before.Node-at.ensures c.if-n-level.false))
+    c.node_at-n.ensures c.if-n-level.false))

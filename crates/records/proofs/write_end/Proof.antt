@@ -10,11 +10,9 @@ pub write_end_spec : {M : Type 1} → statement M
 write_end_spec =
     tie.close
     (tie.spec
-    (λ c. search rules)
     (λ c κs. search rules)
     (λ c. search rules)
     (λ c. rw c.if-ok.true (wrote-end true c.write_text.ensures))
-    (λ c. search rules)
     (λ c κs. search rules)
     (λ c. search rules)
     (λ c. rw c.if-ok.false (wrote-end false c.write_text-2.ensures)))

@@ -8,8 +8,8 @@ use Rattle.seek.proofs.in_both.Reads as reads
 use Rattle.seek.proofs.in_both.Lts as lts
 use Rattle.seek.proofs.holds.Reads as holds-reads
 
-pub in-both-spec : {M : Type 1} → statement M
-in-both-spec =
+pub in_both_spec : {M : Type 1} → statement M
+in_both_spec =
     tie.close
     (tie.spec (λ c κs. search rules)
     (λ c. both-no _
