@@ -1,9 +1,9 @@
 /*
  * A table of decision-diagram rows and a mu-calculus evaluator over it, for switching rules of up to 16 state bits.
  *
- * Link target/staticlib/libexports.a, which `rt staticlib exports` makes in the repository's root (x86-64 Linux), or libkudzuclamp.a, as
- * ./install puts it beside this header. Each of its functions is proved to answer as said here for any words, numbers and bytes; README.md says
- * what the proofs assume. It uses its stack and what it is lent, and keeps no state elsewhere. What is static inline here is not proved.
+ * Link crates/exports/out/libexports.a, which `rt lib` in crates/exports makes (x86-64 Linux), or libkudzuclamp.a, as ./install puts it beside
+ * this header. Each of its functions is proved to answer as said here for any words, numbers and bytes; README.md says what the proofs assume.
+ * It uses its stack and what it is lent, and keeps no state elsewhere. What is static inline here is not proved.
  *
  * STATES. A room has n state bits. A state is a number 0 to 2^n - 1; bit p has weight 2^p. A relation is a set of pairs of states (now, next).
  *

@@ -6,18 +6,18 @@ use std::path::PathBuf;
 /// Overrides the directory that holds the library.
 const DIR_VARIABLE: &str = "KUDZUCLAMP_LIB_DIR";
 
-/// The library's names for the linker: as `rt staticlib exports` makes it, and as it is installed.
+/// The library's names for the linker: as `rt lib` in crates/exports makes it, and as it is installed.
 const NAMES: [&str; 2] = ["exports", "kudzuclamp"];
 
 /// The archive member of a library that `bench/unproved` made, which looks at no proof.
 const UNPROVED: &[u8] = b"measured.o/";
 
-/// The directory of the library: the variable's, or the repository's `target/staticlib`. Cargo
+/// The directory of the library: the variable's, or the repository's `crates/exports/out`. Cargo
 /// runs this in the package's directory.
 fn directory() -> PathBuf {
     match env::var_os(DIR_VARIABLE) {
         Some(dir) => PathBuf::from(dir),
-        None => PathBuf::from("../target/staticlib"),
+        None => PathBuf::from("../crates/exports/out"),
     }
 }
 
@@ -32,8 +32,8 @@ fn main() {
     let library = |name: &str| dir.join(format!("lib{name}.a"));
     let Some(name) = NAMES.into_iter().find(|name| library(name).is_file()) else {
         panic!(
-            "{} is missing. Make it with `rt staticlib exports` in the repository's root, or set \
-             {DIR_VARIABLE} to the directory that holds it, or libkudzuclamp.a where it is installed.",
+            "{} is missing. Make it with `rt lib` in crates/exports, or set {DIR_VARIABLE} to the \
+             directory that holds it, or libkudzuclamp.a where it is installed.",
             library(NAMES[0]).display()
         );
     };

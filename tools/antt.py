@@ -4,7 +4,8 @@ It knows the layout that `rt fmt` gives: a declaration begins at its section's i
 clauses and its `unfolding` line belong to it; comment lines directly above it are its comment. A name that is bound inside a declaration
 (an argument, a pattern, a `let`, a `where`) hides the declared one throughout that declaration. What it would read otherwise than the prover
 does, it refuses with a ValueError: block comments, quoted names, globs, modules inside a file, a name that is declared twice or that covers
-the head of an import's path, lines that are neither a clause nor an `unfolding` line of the declaration that they follow."""
+the head of an import's path, lines that are neither a clause nor an `unfolding` line of the declaration that they follow; and a file with an
+`open` line, once somebody asks what one of its declarations names."""
 import functools, glob, os, re
 
 NAME = r'[^\s(){}\[\];,.]+'
@@ -74,6 +75,7 @@ class File:
         for x in lines[:at]:
             if re.match(r'(unfoldable |pub )*use ', x): self.uses.append(Use(x))
             if re.match(r'(pub )?mod ', x): self.mods.append(x.split()[-1])
+        self.opens = False
         self.items, _ = self.read(lines, at, 0, ())
         self.decls = list(self.walk(self.items))
         self.refuse()
@@ -86,11 +88,11 @@ class File:
         for name in here:
             if names.count(name) > 1 or name in heads: raise ValueError(f'{self.path}: {name} stands for two things')
         for d in self.decls:
-            own, deep = [p for p in d.name.split('_') if p], indent(d.lines[0])
+            own, deep = [p for p in d.name.split('◌') if p], indent(d.lines[0])
             for x in d.lines[1:]:
                 text = x.strip()
                 if not text or d.kind or indent(x) > deep or text.startswith(('--', 'unfolding ')) or text[0] in ')}]': continue
-                if text.split()[0] != d.name and ('_' not in d.name or not all(p in text for p in own)):
+                if text.split()[0] != d.name and ('◌' not in d.name or not all(p in text for p in own)):
                     raise ValueError(f'{self.path}: this belongs to no declaration: {text}')
 
     def walk(self, items):
@@ -120,6 +122,9 @@ class File:
                 section.items, at = self.read(lines, end + 1, depth + 2, sections + (section,))
                 items.append(section)
             else:
+                if text.startswith('open '):
+                    self.opens, at = True, at + 1
+                    continue
                 found = TYPE.match(text) or SIGNATURE.match(text)
                 if not found: raise ValueError(f'{self.path}:{at + 1}: {text}')
                 kind, name = (found.group(2), found.group(3)) if TYPE.match(text) else ('', found.group(2))
@@ -152,13 +157,18 @@ def bare(text):
 
 
 def words(text):
-    """The names that a text mentions: plain ones, and pairs (module, name) of paths. Fields after a blank and a dot are left out."""
+    """The names that a text mentions: plain ones, and the parts of what has dots, a path or a value with its fields. Fields of what stands in
+    parentheses are left out."""
     text = bare(text)
     for m in re.finditer(rf'{NAME}(?:\.{NAME})*', text):
         if m.start() and text[m.start() - 1] == '.' : continue
         path = m.group().split('.')
-        if len(path) == 1: yield path[0]
-        else: yield ('.'.join(path[:-1]), path[-1])
+        yield path[0] if len(path) == 1 else tuple(path)
+
+
+def head(word):
+    """A plain name, or the first part of what has dots."""
+    return word if isinstance(word, str) else word[0]
 
 
 def bound(text, constructors=()):
@@ -179,7 +189,7 @@ def uses(text, hidden=(), constructors=()):
     """The names that a text mentions and does not bind. What stands before ` =` is a field or an argument's name."""
     hidden = bound(text, constructors) | set(hidden)
     plain = re.sub(rf'(?<![^\s{{;(]){NAME}(?= =(?:\s|$))', '', text, flags=re.M)
-    return {w for w in words(plain) if w not in hidden}
+    return {w for w in words(plain) if head(w) not in hidden}
 
 
 def chunks(decl):
@@ -204,9 +214,9 @@ class Tree:
     Files of the proof of one function are left out."""
     def __init__(self, root='.'):
         self.root, self.files, self.decls, self.where, self.known = root, {}, {}, {}, {}
-        for path in sorted(glob.glob(os.path.join(root, 'crates/*/*/**/*.antt'), recursive=True)):
+        for path in sorted(x for part in ('specs', 'proofs') for x in glob.glob(os.path.join(root, f'crates/*/{part}/**/*.antt'), recursive=True)):
             crate, folder, *rest = os.path.relpath(path, os.path.join(root, 'crates')).split('/')
-            if rest == ['Lib.antt'] or rest[-1] == 'Proof.antt' or 'Proof' in rest: continue
+            if rest == ['Lib.antt'] or 'Proof' in rest or rest[1:] and rest[-1] in ('Proof.antt', 'Invariants.antt', 'Answers.antt'): continue
             key = (crate, folder, '.'.join(rest)[:-5])
             self.files[key] = File(path)
             for d in self.files[key].decls: self.decls[key + (d.name,)] = d
@@ -214,7 +224,7 @@ class Tree:
 
     def module(self, path):
         """(crate, folder, module) of a path that names a file of ours, or None."""
-        m = re.match(r'Rattle·(\w+?)(?:·(?:specs|proofs))?\.(specs|proofs)\.(.*)$', path)
+        m = re.match(r'Rattle\.(\w+)\.(specs|proofs)\.(.*)$', path)
         return m.groups() if m and m.groups() in self.files else None
 
     def scope(self, uses, key=None):
@@ -241,13 +251,12 @@ class Tree:
     def rests(self, text, scope, hidden=()):
         """The declarations of ours that a text names. An operator is named where all its parts are."""
         told = uses(text, hidden, [x for x, at in scope.items() if at and len(at) == 4 and at[3] != x])
-        found = {at for x, at in scope.items() if at and len(at) == 4 and '_' in x and all(p in told for p in x.split('_') if p)}
+        found = {at for x, at in scope.items() if at and len(at) == 4 and '◌' in x and all(p in told for p in x.split('◌') if p)}
         for w in told:
-            if isinstance(w, tuple):
-                there = scope.get(w[0]) or self.module(w[0])
-                at = self.home(there, w[1]) if there and len(there) == 3 else there
-            else:
-                at = scope.get(w)
+            at = scope.get(head(w))
+            if isinstance(w, tuple) and (at is None or len(at) == 3):
+                places = [(at, w[1])] + [(self.module('.'.join(w[:k])), w[k]) for k in range(1, len(w))]
+                at = next((home for there, name in places if there and (home := self.home(there, name))), None)
             if at and len(at) == 4: found.add(at)
         return found
 
@@ -257,6 +266,7 @@ class Tree:
         return self.known[key, statement]
 
     def named(self, key, statement):
+        if self.files[key[:3]].opens: raise ValueError(f'{self.files[key[:3]].path}: an `open` line is not read')
         d, scope, found = self.decls[key], self.where[key[:3]], set()
         params = set().union(*(bound(bare('\n'.join(x.header))) for x in d.sections))
         for section in d.sections: found |= self.rests(bare('\n'.join(section.header)), scope)
@@ -279,7 +289,7 @@ def clauses(text):
     """The contracts of a Rattle file: (function, last line, what stands in the braces) of each clause; and its `ghost use` lines."""
     if '/*' in text: raise ValueError('block comments are not read')
     found, text = [], re.sub(r'//.*', '', text)
-    for m in re.finditer(r'(?m)^\s*(?:requires|ensures|ghost)\s*\{', text):
+    for m in re.finditer(r'(?m)^\s*(?:(?:requires|ensures)(?: \w+)?|ghost(?: \w+:)?)\s*\{', text):
         depth, at = 1, m.end()
         while depth:
             depth += {'{': 1, '}': -1}.get(text[at], 0)

@@ -44,8 +44,8 @@
 //! [`Names`] has names for the bits: formulas are read from text and written as text with them. What
 //! is wrong with a formula is told with its place: see [`Fault`] and [`ParseError`].
 //!
-//! The static library is made by `rt staticlib exports` in the repository's root; [`PROVED`] tells
-//! whether the one that is linked was.
+//! The static library is made by `rt lib` in crates/exports; [`PROVED`] tells whether the one that
+//! is linked was.
 #![deny(missing_docs, unsafe_code)]
 
 #[allow(unsafe_code)]
@@ -86,6 +86,6 @@ pub use table::{
 };
 pub use target::Target;
 
-/// Whether the linked library is one that `rt staticlib` made, which checks all proofs first. It is
+/// Whether the linked library is one that `rt lib` made, which checks all proofs first. It is
 /// false for a quick build (`bench/unproved`), which looks at no proof.
 pub const PROVED: bool = cfg!(kudzuclamp_proved);

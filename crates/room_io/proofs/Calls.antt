@@ -1,55 +1,33 @@
--- What the answers of C's read and of a write say. Assumes nothing.
-use mathlib.Core.Path.{◌≡◌, refl, sym, ap, ◌∙◌, subst}
-use mathlib.Core.Bool.{Bool, true, false}
+-- What the answers of a read and of a write say. Assumes nothing.
+use mathlib.Core.Path.{◌≡◌, refl, sym, ap, subst}
 use Prim.Native.Nat.{ℕ, zero, suc, ◌+◌, ◌≤◌, ◌<◌}
 use native.Mathlib.Omega.{arith}
 use lib.IntN.{ℤ, pos, negsuc}
-use lib.Signed.{lt_z}
-use borrow.Author.Tests.{ltb-true, ltb-false}
-use mir.Syntax.{w64}
-use mir.Val.{to_z, of_z, SFits}
-use mir.Facts.{to_z-of_z}
-use Rattle.io.specs.Counts.{clamp_len}
-use Rattle.libc.specs.Io.{Moved}
-use Rattle.records.proofs.Reading.{never}
+use Rattle.std.specs.Prelude.{List, length, min, Result, Ok, Err}
+use Rattle.std.specs.Io.{ReadsAtMost}
 use Rattle.room_io.specs.declared.Progress.{Progress}
 use Rattle.room_io.specs.declared.Brought.{Brought}
 use Rattle.room_io.specs.declared.Brought.TheVariants.{Bytes, End, Failed}
-use Rattle.room_io.specs.Calls.{brought_of, ReadSays, Sums, after_read, WriteSays}
+use Rattle.room_io.specs.Calls.{Moved, answer_of, brought_of, ReadSays, Sums, after_read, WriteSays}
 
--- ---- the answer of a read; the tests and the count read it back from its bits
+-- ---- the answer of a read
 
-some : (got : ℤ) (room : ℕ) {n : ℕ} → lt_z (pos 0) got ≡ true → n ≡ clamp_len got room → Bytes n ≡ brought_of got room
-some (pos zero) room t e = absurd (omega (arith, ltb-true 0 0 t))
-some (pos (suc k)) room t e = ap Bytes e
-some (negsuc k) room t e = never (cc)
+pub says_some : (n room : ℕ) → 0 < n → Bytes (min n room) ≡ brought_of (pos n) room
+says_some zero room h = absurd (omega arith)
+says_some (suc k) room h = refl
 
-failed : (got : ℤ) (room : ℕ) → lt_z got (pos 0) ≡ true → Failed ≡ brought_of got room
-failed (pos k) room t = absurd (omega (arith, ltb-true k 0 t))
-failed (negsuc k) room t = refl
+pub says_end : (n room : ℕ) → n ≤ 0 → End ≡ brought_of (pos n) room
+says_end zero room h = refl
+says_end (suc k) room h = absurd (omega arith)
 
-ended : (got : ℤ) (room : ℕ) → lt_z (pos 0) got ≡ false → lt_z got (pos 0) ≡ false → End ≡ brought_of got room
-ended (pos zero) room t u = refl
-ended (pos (suc k)) room t u = absurd (omega (arith, ltb-false 0 (suc k) t))
-ended (negsuc k) room t u = never (cc)
+-- what std says of a read's answer
+answer_moved : {E : Type 0} (got : Result ℕ E) (room : List ℕ) → ReadsAtMost got room → Moved (length room) (answer_of got)
+answer_moved (Ok n) room h = h.0
+answer_moved (Err e) room h = refl
 
-module _ (got : ℤ) (room : ℕ) (fits : SFits w64 got) where
-  pub says_some : {n : ℕ} → lt_z (pos 0) (to_z w64 (of_z w64 got)) ≡ true → n ≡ clamp_len (to_z w64 (of_z w64 got)) room
-      → Bytes n ≡ brought_of got room
-  says_some t e = some got room (sym (ap (lt_z (pos 0)) (to_z-of_z fits)) ∙ t) (e ∙ ap (λ (x : ℤ). clamp_len x room) (to_z-of_z fits))
-
-  pub says_failed : lt_z (to_z w64 (of_z w64 got)) (pos 0) ≡ true → Failed ≡ brought_of got room
-  says_failed t = failed got room (sym (ap (λ (x : ℤ). lt_z x (pos 0)) (to_z-of_z fits)) ∙ t)
-
-  pub says-end : lt_z (pos 0) (to_z w64 (of_z w64 got)) ≡ false → lt_z (to_z w64 (of_z w64 got)) (pos 0) ≡ false → End ≡ brought_of got room
-  says-end t u = ended got room (sym (ap (lt_z (pos 0)) (to_z-of_z fits)) ∙ t) (sym (ap (λ (x : ℤ). lt_z x (pos 0)) (to_z-of_z fits)) ∙ u)
-
-  pub read-says : {size : ℕ} {b : Brought} → Moved size got → room ≡ size → b ≡ brought_of (to_z w64 (of_z w64 got)) room → ReadSays room b
-  read-says m z e = record {
-    got = got;
-    moved = subst (λ (k : ℕ). Moved k got) (sym z) m;
-    is = e ∙ ap (λ (x : ℤ). brought_of x room) (to_z-of_z fits);
-  }
+pub read_says : {E : Type 0} (got : Result ℕ E) (room : List ℕ) {b : Brought} → ReadsAtMost got room
+    → b ≡ brought_of (answer_of got) (length room) → ReadSays (length room) b
+read_says got room h e = record { got = answer_of got; moved = answer_moved got room h; is = e }
 
 -- a read that is not the end of the input brings a byte or more, and no more than there is room for
 abbrev pub ReadWithin : ℕ → Brought → Type 0

@@ -1,10 +1,19 @@
--- What the answers of C's read and of a write say, and how far the program is after them.
+-- What the answers of a read and of a write say, and how far the program is after them.
 -- Definitions alone.
-use Rattle.std.specs.Prelude.{◌≡◌, Bool, true, false, not, ℕ, zero, suc, ◌+◌, ◌<◌, min, ℤ, pos, negsuc}
-use Rattle.libc.specs.Io.{Moved}
+use Rattle.std.specs.Prelude.{◌≡◌, Bool, true, false, not, ℕ, zero, suc, ◌+◌, ◌≤◌, ◌<◌, min, ℤ, pos, negsuc, Result, Ok, Err}
 use Rattle.room_io.specs.declared.Progress.{Progress}
 use Rattle.room_io.specs.declared.Brought.{Brought}
 use Rattle.room_io.specs.declared.Brought.TheVariants.{Bytes, End, Failed}
+
+-- what a read that is handed room for n bytes may answer: -1, or how many bytes it moved, at most n
+abbrev pub Moved : ℕ → ℤ → Type 0
+Moved n (pos k) = k ≤ n
+Moved n (negsuc k) = k ≡ 0
+
+-- the answer of a read as such a number: -1 where it is an error
+abbrev pub answer_of : {E : Type 0} → Result ℕ E → ℤ
+answer_of (Ok n) = pos n
+answer_of (Err e) = negsuc 0
 
 -- the answer of a read: above 0 so many bytes, no more than there is room for; 0 the end of the input; below 0 it failed
 abbrev pub brought_of : ℤ → ℕ → Brought
@@ -12,7 +21,7 @@ brought_of (pos zero) room = End
 brought_of (pos (suc k)) room = Bytes (min (suc k) room)
 brought_of (negsuc k) room = Failed
 
--- what a read brought is what some answer of C's read says
+-- what a read brought is what some answer of a read says
 pub record ReadSays (room : ℕ) (b : Brought) : Type 0 where
   pub got : ℤ
   pub moved : Moved room got

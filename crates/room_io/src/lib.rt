@@ -1,4 +1,4 @@
-// The program's reading and writing: records from standard input through one buffer, lines to standard output through another.
+// The program's reading and writing: records from a reader through one buffer, lines to a writer through another.
 #![tactic(auto)]
 
 ghost use Rattle.std.specs.Prelude.{◌≡◌, ◌-◌, ◌≤◌, ◌<◌, length, take, drop};
@@ -7,11 +7,11 @@ ghost use Rattle.contract.specs.Seen.{SoundWords};
 ghost use Rattle.rooms.specs.Replies.{line_room};
 ghost use Rattle.rooms.specs.Whole.{zeros};
 ghost use Rattle.room_io.specs.Places.{Placed, Refilled, Turned, longest, unwritten};
-ghost use Rattle.room_io.specs.Calls.{brought_of, ReadSays, Sums, after_read, after_write, WriteSays};
+ghost use Rattle.room_io.specs.Calls.{answer_of, brought_of, ReadSays, Sums, after_read, after_write, WriteSays};
 ghost use Rattle.room_io.specs.Served.{Served};
 
-use libc::{STDIN_FILENO, STDOUT_FILENO};
 use rooms::{Said, answer};
+use std::io::{self, Read, Write};
 
 // How far the program is: the bytes at hand stand in the input buffer from `start` to `end`, and `pending` bytes at the front of the output
 // buffer are still to be written. `ended`: no more bytes will come. `done`: the last line is written, or a read or a write failed.
@@ -34,24 +34,24 @@ pub enum Brought {
     Failed,
 }
 
-// What the answer of a read into the room says: above 0 so many bytes, 0 the end of the input, below 0 that it failed.
-fn brought_of(got: isize, room: &[u8]) -> Brought
-    ensures { result ≡ brought_of got (length room.now) }
+// What the answer of a read into the room says: above 0 so many bytes, 0 the end of the input, an error that it failed.
+fn brought_of(got: io::Result<usize>, room: &[u8]) -> Brought
+    ensures { result ≡ brought_of (answer_of got) (length room.now) }
 {
-    if got > 0 {
-        return Brought::Bytes(io::count(got, room));
-    }
-    if got < 0 {
+    let Ok(count) = got else {
         return Brought::Failed;
+    };
+    if count > 0 {
+        return Brought::Bytes(count.min(room.len()));
     }
     Brought::End
 }
 
 // Reads once into the room.
-fn read_some(room: &mut [u8]) -> Brought
+fn read_some(reader: &mut impl Read, room: &mut [u8]) -> Brought
     ensures { ReadSays (length room.new) result }
 {
-    let got = libc::read(STDIN_FILENO, room);
+    let got = reader.read(room);
     brought_of(got, room)
 }
 
@@ -103,13 +103,13 @@ fn after_read(p: Progress, held: usize, brought: Brought) -> Progress
 }
 
 // More bytes after those at hand, which move to the front. There is room for more, so that a read of none is the end of the input.
-fn refill(input: &mut [u8], p: Progress) -> Progress
+fn refill(reader: &mut impl Read, input: &mut [u8], p: Progress) -> Progress
     requires { (p.start ≤ p.end) × (p.end ≤ length input.old) × (p.end - p.start < length input.old) }
     ensures refilled { Refilled p result input.old input.new }
     ensures sound_value { result.sound ≡ p.sound }
 {
     let held = to_front(input, p.start, p.end);
-    let brought = read_some(&mut input[held..]);
+    let brought = read_some(reader, &mut input[held..]);
     after_read(p, held, brought)
 }
 
@@ -128,25 +128,32 @@ fn after_write(p: Progress, written: bool) -> Progress
 }
 
 // Writes the text, which is what is pending in the output buffer.
-fn write_text(text: &[u8], output: &[u8], p: Progress) -> Progress
+fn write_text(writer: &mut impl Write, text: &[u8], output: &[u8], p: Progress) -> Progress
     requires { text.now ≡ unwritten p output.now }
     ensures { WriteSays p result }
 {
-    let written = io::write_all(STDOUT_FILENO, text);
+    let written = writer.write_all(text).is_ok();
     after_write(p, written)
 }
 
 // Writes what is pending.
-fn flush(output: &[u8], p: Progress) -> Progress
+fn flush(writer: &mut impl Write, output: &[u8], p: Progress) -> Progress
     requires { p.pending ≤ length output.now }
     ensures { WriteSays p result }
 {
     let due = p.pending;
-    write_text(&output[..due], output, p)
+    write_text(writer, &output[..due], output, p)
 }
 
 // One answer, and the read or the write that it asks for.
-fn turn(words: &mut [u32], input: &mut [u8], output: &mut [u8], p: Progress) -> Progress
+fn turn(
+    reader: &mut impl Read,
+    writer: &mut impl Write,
+    words: &mut [u32],
+    input: &mut [u8],
+    output: &mut [u8],
+    p: Progress,
+) -> Progress
     requires { Placed p (length input.old) (length output.old) × Says (SoundWords words.old) p.sound }
     ensures turned { Turned p result words.old words.new input.old input.new
         output.old output.new }
@@ -180,14 +187,20 @@ fn turn(words: &mut [u32], input: &mut [u8], output: &mut [u8], p: Progress) -> 
             done: true,
             sound: reply.sound,
         },
-        Said::More => refill(input, p),
-        Said::Room => flush(output, p),
+        Said::More => refill(reader, input, p),
+        Said::Room => flush(writer, output, p),
     }
 }
 
 // Answers records until the last line is written, on the program's words, which are no sound table yet, and through buffers that are lent;
 // how far it is after the write of what is pending then.
-fn serve(words: &mut [u32], input: &mut [u8], output: &mut [u8]) -> Progress
+fn serve(
+    reader: &mut impl Read,
+    writer: &mut impl Write,
+    words: &mut [u32],
+    input: &mut [u8],
+    output: &mut [u8],
+) -> Progress
     requires { (words.old ≡ zeros) × (longest ≤ length input.old) × (line_room ≤ length output.old) }
     ensures { Served words.old words.new input.old input.new
         output.old output.new result }
@@ -202,16 +215,16 @@ fn serve(words: &mut [u32], input: &mut [u8], output: &mut [u8]) -> Progress
     };
     let mut turns = u64::MAX;
     while turns > 0 && !p.done {
-        p = turn(words, input, output, p);
+        p = turn(reader, writer, words, input, output, p);
         turns -= 1;
     }
-    flush(output, p)
+    flush(writer, output, p)
 }
 
-// Reads records from standard input to their end and writes their lines; 16,384 words of zeros are lent.
-pub fn run() {
+// Reads records to the reader's end and writes their lines to the writer; 16,384 words of zeros are lent.
+pub fn run(reader: &mut impl Read, writer: &mut impl Write) {
     let mut words = [0u32; 16384];
-    let mut input = io::buffer();
-    let mut output = io::buffer();
-    serve(&mut words, &mut input, &mut output);
+    let mut input = [0u8; 4096];
+    let mut output = [0u8; 4096];
+    serve(reader, writer, &mut words, &mut input, &mut output);
 }

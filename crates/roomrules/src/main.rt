@@ -1,6 +1,6 @@
 // Reads records from standard input, and writes a line for each and a last one.
 #![tactic(auto)]
 
-fn main() {
-    room_io::run();
+fn main(rt: HostRuntime) {
+    room_io::run(&mut rt.stdin(), &mut rt.stdout());
 }

@@ -117,7 +117,7 @@ fn why(refusal: Refusal, limits: Limits) -> String {
 /// Records in hexadecimal, each below a comment, and each question's below its line.
 fn text(room: &Room, list: &[Record], name: &str) -> String {
     let mut text = format!(
-        "# Records for roomrules, made from {name} by room {}:\n#     sh examples/records-to-bytes THIS | target/bin/roomrules\n\
+        "# Records for roomrules, made from {name} by room {}:\n#     sh examples/records-to-bytes THIS | crates/roomrules/out/roomrules\n\
          # It prints a line for each record: operation, refusal (0: answered), value, rounds. A refusal is no verdict.\n\n",
         env!("CARGO_PKG_VERSION")
     );

@@ -9,7 +9,8 @@
 //! - `turns` makes the calls of games as C does;
 //! - `records` writes calls as the program's records.
 //!
-//! `cargo test --offline --release` needs `target/staticlib/libexports.a` (`rt staticlib exports`).
+//! `cargo test --offline --release` needs `crates/exports/out/libexports.a` (`rt lib` in
+//! crates/exports).
 
 pub mod call;
 pub mod compare;

@@ -1,5 +1,5 @@
-//! Damaged records: the program `target/bin/roomrules` (`rt check roomrules`) and the separate
-//! evaluator's program read the same bytes and must print the same lines.
+//! Damaged records: the program `crates/roomrules/out/roomrules` (`rt run` in crates/roomrules) and
+//! the separate evaluator's program read the same bytes and must print the same lines.
 
 use calls::records::{draw, record};
 use reference::random::Random;
@@ -7,7 +7,7 @@ use reference::records::output_of;
 use std::io::{Read, Write};
 use std::process::{Command, Stdio};
 
-const PROGRAM: &str = "../../target/bin/roomrules";
+const PROGRAM: &str = "../../crates/roomrules/out/roomrules";
 
 /// What the program prints for these bytes.
 fn program(input: &[u8]) -> String {
@@ -15,7 +15,7 @@ fn program(input: &[u8]) -> String {
         .stdin(Stdio::piped())
         .stdout(Stdio::piped())
         .spawn()
-        .expect("target/bin/roomrules, made by `rt check roomrules`");
+        .expect("crates/roomrules/out/roomrules, made by `rt run` in crates/roomrules");
     // The program may end before it has read all.
     let _ = child.stdin.take().expect("piped").write_all(input);
     let mut output = String::new();

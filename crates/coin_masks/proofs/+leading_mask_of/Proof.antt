@@ -76,7 +76,7 @@ pub +leading_mask_of_spec : {M : Type 1} → statement M
     (λ c κs. let c1 = c.before.before.before.before.before in let c2 = c1.before in let c3 = c2.before.before.before in
     leading-asks c1.follow_at-y.ensures c3.requires.1.0.arrow c3.requires.1.1 c3.requires.1.0.small c3.requires.1.0.masked
     c2.level_of-level.ensures c3.requires.0)
-    (λ c κs. let c1 = c.before.before.before in let c2 = c1.before.before.before in let c3 = c2.before.before.before.before in let c4 = c3.before.before.before in leading-asks c2.follow_at-z.ensures c4.pre.1.0.arrow c4.pre.1.1 c4.pre.1.0.small c1.mask_of-a.ensures.masked c3.level_of-level.ensures c4.pre.0)
+    (λ c κs. let c1 = c.before.before.before in let c2 = c1.before.before.before in let c3 = c2.before.before.before.before in let c4 = c3.before.before.before in leading-asks c2.follow_at-z.ensures c4.requires.1.0.arrow c4.requires.1.1 c4.requires.1.0.small c1.mask_of-a.ensures.masked c3.level_of-level.ensures c4.requires.0)
     (λ c κs. let c1 = c.before.before.before.before.before.before.before.before.before.before in let b = c1.if-k-gt5.false
     in omega arith)
     (λ c. let c1 = c.before.before.before in let c2 = c1.before.before.before.before in c1.mask_of-b.auto.notes ∙ c2.mask_of-a.auto.notes)
@@ -84,8 +84,8 @@ pub +leading_mask_of_spec : {M : Type 1} → statement M
     let c4 = c3.before in let c5 = c4.before.before in let c6 = c5.before in mask-now c6.follow_at-y.ensures c4.follow_at-z.ensures c5.if-p-low.false c3.if-level-eq0.true c2.mask_of-a.ensures c1.mask_of-b.ensures c.choose_bits.ensures)
     (λ c κs. let b = c.if-k-gt5.false in omega arith)
     (λ c κs. let c1 = c.before.before.before in let b = c1.if-k-gt5.false in omega arith)
-    (λ c κs. let c1 = c.before.before.before.before.before.before.before in let c2 = c1.before in let c3 = c2.before.before.before in leading-asks c1.follow_at-y.ensures c3.pre.1.0.arrow c3.pre.1.1 c3.pre.1.0.small c3.pre.1.0.masked c2.level_of-level.ensures c3.pre.0)
-    (λ c κs. let c1 = c.before.before.before in let c2 = c1.before.before.before.before.before in let c3 = c2.before.before.before.before in let c4 = c3.before.before.before in leading-asks c2.follow_at-z.ensures c4.pre.1.0.arrow c4.pre.1.1 c4.pre.1.0.small c1.mask_of-a-2.ensures.masked c3.level_of-level.ensures c4.pre.0)
+    (λ c κs. let c1 = c.before.before.before.before.before.before.before in let c2 = c1.before in let c3 = c2.before.before.before in leading-asks c1.follow_at-y.ensures c3.requires.1.0.arrow c3.requires.1.1 c3.requires.1.0.small c3.requires.1.0.masked c2.level_of-level.ensures c3.requires.0)
+    (λ c κs. let c1 = c.before.before.before in let c2 = c1.before.before.before.before.before in let c3 = c2.before.before.before.before in let c4 = c3.before.before.before in leading-asks c2.follow_at-z.ensures c4.requires.1.0.arrow c4.requires.1.1 c4.requires.1.0.small c1.mask_of-a-2.ensures.masked c3.level_of-level.ensures c4.requires.0)
     (λ c. let c1 = c.before.before.before.before.before.before in c.mask_of-b-2.auto.notes ∙ c1.mask_of-a-2.auto.notes)
     (λ c. let c1 = c.before.before.before.before.before.before in let c2 = c1.before.before in let c3 = c2.before in
     let c4 = c3.before in let c5 = c4.before in let c6 = c5.before.before in let c7 = c6.before in let c8 = c7.before in

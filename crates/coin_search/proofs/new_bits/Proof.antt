@@ -24,4 +24,4 @@ new_bits_spec =
       masked = c1.requires.masked;
     })
     (λ c. search rules)
-    (λ c. let c1 = c.before.before.before.before in let c2 = c1.before.before in let c3 = c2.before.before.before.before.before in new-mask c3.pre refl (let e = c2.level_of-level.ensures in let t = c1.if-level-wave.false in omega arith) c.mask_of-mask.ensures))
+    (λ c. let c1 = c.before.before.before.before in let c2 = c1.before.before in let c3 = c2.before.before.before.before.before in new-mask c3.requires refl (let e = c2.level_of-level.ensures in let t = c1.if-level-wave.false in omega arith) c.mask_of-mask.ensures))

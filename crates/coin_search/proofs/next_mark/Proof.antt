@@ -33,7 +33,7 @@ next_mark_spec =
           c.args.r).fits c.step_cost.ensures in
           omega arith;
     })
-    (λ c. next-some c.before.before.before.before.before.before.before.before.before.pre.0
-    c.header_word.ensures c.if-header_word-eq0.left
-    c.if-done-count.left c.state_at-s.ensures c.mark_of.ensures
+    (λ c. next-some c.before.requires.0
+    c.header_word.ensures c.if-header_word-eq0.false
+    c.if-done-count.false c.state_at-s.ensures c.mark_of.ensures
     c.step_cost.ensures))

@@ -43,11 +43,11 @@ add_sizes_spec =
     (λ c. search rules)
     (λ c. let v = c.loop-k.invariant in (
       omega arith,
-      c.before.before.type_size.auto.1.1.0 ∙ v.1,
+      c.size_of.auto.counts ∙ v.1,
       summed_more c.requires.0.sound
           (c.requires.0.arrows _
           (get_or-mem _ _ c.loop-k-test.true))
-          c.loop-k-test.true v.2 c.before.before.type_size.ensures,
+          c.loop-k-test.true v.2 c.size_of.ensures,
     ))
     (λ c. c.loop-k.invariant.1)
     (λ c. summed_all _ c.loop-k-test.false c.loop-k.invariant.2))

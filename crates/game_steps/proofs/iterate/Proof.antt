@@ -59,8 +59,8 @@ iterate_spec =
     let c23 = c17.before.before.before.before.before.before in loop-same c23.requires.0 c17.loop-counted.invariant
     c10.evaluate_round-value.ensures.0 c14.loop-counted-test.true c2.in-Value-2.given.1 c.if-a-current.true)
     (λ c κs. let c1 = c.before in let c3 = c1.before.before in let c11 = c3.before.before.before.before.before.before.before.before in let c15 = c11.before.before.before.before in let c18 = c15.before.before.before in
-    let c24 = c18.before.before.before.before.before.before in turn-notes c24.pre.0 c18.loop-counted.inv
-    c11.evaluate_round-value.ensures.0 c15.loop-counted-test.taken c3.in-Value-2.given.1 c1.if-a-current.false c11.evaluate_round-value.kept.1.1.0)
+    let c24 = c18.before.before.before.before.before.before in turn-notes c24.requires.0 c18.loop-counted.inv
+    c11.evaluate_round-value.ensures.0 c15.loop-counted-test.true c3.in-Value-2.given.1 c1.if-a-current.false c11.evaluate_round-value.kept.1.1.0)
     (λ c. let c2 = c.before.before in let c4 = c2.before.before in
     let c12 = c4.before.before.before.before.before.before.before.before in let c16 = c12.before.before.before.before in
     let c19 = c16.before.before.before in let c25 = c19.before.before.before.before.before.before in omega (

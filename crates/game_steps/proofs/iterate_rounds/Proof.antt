@@ -23,5 +23,5 @@ iterate_rounds_spec =
     (λ c κs. let c4 = c.before.before.before.before in let c9 = c4.before.before.before.before.before in
     let c13 = c9.before.before.before.before in (rounds-ask c13.requires c9.forget.ensures, c4.begin.ensures))
     (λ c. search rules)
-    (λ c. let c4 = c.before.before.before.before in let c14 = c4.before.before.before.before.before.before.before.before.before.before in let c18 = c14.before.before.before.before in rounds-done c18.pre c14.forget.ensures
+    (λ c. let c4 = c.before.before.before.before in let c14 = c4.before.before.before.before.before.before.before.before.before.before in let c18 = c14.before.before.before.before in rounds-done c18.requires c14.forget.ensures
     c4.iterate.ensures))

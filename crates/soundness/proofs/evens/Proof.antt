@@ -1,7 +1,6 @@
 -- `evens` meets its contract: the invariant is that every marked row passed has an even level. Assumes nothing.
 use mathlib.Core.Path.{◌≡◌, sym, ◌∙◌}
 use mathlib.Core.Bool.{true≢false}
-use mathlib.Core.Logic.{⊎_elim}
 use Prim.Native.Nat.{ℕ, ◌-◌, ◌≤◌, ◌<◌, ◌%◌}
 use native.Mathlib.Omega.{arith}
 use borrow.Author.Count.{below_none, below_more}
@@ -12,6 +11,7 @@ use Rattle.rows.specs.Says.{holds, fails}
 use Rattle.rows.specs.Bits.{On}
 use Rattle.soundness.proofs.evens.Statement.{statement}
 use Rattle.soundness.proofs.evens.Tie as tie
+use Rattle.soundness.proofs.evens.Lts.{then-marked+else-get-eq1, else-marked}
 
 abbrev invariant_loop : tie.invariant-loop-k
 invariant_loop words rows marks used k₀ k =
@@ -55,9 +55,9 @@ evens_spec =
     let m = c.marked.ensures in let t = c.loop-k-test.true in (
       v.0,
       omega arith,
-      ⊎_elim
-          (λ w. below_more _ _ v.2 (λ _. let g = rw e at w.1.ensures in let n = w.2.left in omega arith))
-          (λ w. below_more _ _ v.2 (λ o. absurd (true≢false (sym (rw (← e) at o) ∙ sym m ∙ w.left))))
-          c.if-marked.branch,
+      elim c.if-marked.branch [
+        | then-marked+else-get-eq1 w ↦ below_more _ _ v.2 (λ _. let g = rw e at w.get.ensures in let n = w.if-get-eq1.false in omega arith)
+        | else-marked w ↦ below_more _ _ v.2 (λ o. absurd (true≢false (sym (rw (← e) at o) ∙ sym m ∙ w.if-marked.false)))
+      ],
     ))
     (λ c. holds (λ k h o. let v = c.loop-k.invariant in let t = c.loop-k-test.false in v.2 k (omega arith) o)))

@@ -14,12 +14,12 @@ lead_ok_spec =
     tie.close
     (tie.spec
     (λ c κs. search rules)
-    (λ c. holds (leads_constant _ _ _ (test_no c.is_row.ensures c.if-not-is_row.true-raw)))
+    (λ c. holds (leads_constant (view c.args.rows c.args.words.now) _ _ (test_no c.is_row.ensures c.if-not-is_row.true-raw)))
     (λ c κs. test_yes c.is_row.ensures c.if-not-is_row.false-raw)
     (λ c κs. search rules)
     (λ c. fails
     (λ q. says_fail c.if-not-used_row.true-raw (says_is c.used_row.ensures)
-    (of_leads _ _ _ (test_yes c.is_row.ensures c.if-not-is_row.false-raw)
+    (of_leads (view c.args.rows c.args.words.now) _ _ (test_yes c.is_row.ensures c.if-not-is_row.false-raw)
     c.row_of-i.ensures q).0))
     (λ c κs. let u =
     used_row
@@ -28,13 +28,13 @@ lead_ok_spec =
     (says_pass c.if-not-used_row.false-raw (says_is c.used_row.ensures)) in
     let r = c.requires in omega arith)
     (λ c. fails
-    (λ q. let z = of_leads _ _ _
+    (λ q. let z = of_leads (view c.args.rows c.args.words.now) _ _
     (test_yes c.is_row.ensures
     c.if-not-is_row.false-raw) c.row_of-i.ensures q in
     let e = c.get.ensures in let t = c.if-get-above.true in omega arith))
     (λ c. let e = c.get.ensures in
     let t = c.if-get-above.false in
-    holds (leads_of _ _ _
+    holds (leads_of (view c.args.rows c.args.words.now) _ _
     (test_yes c.is_row.ensures
     c.if-not-is_row.false-raw) c.row_of-i.ensures
     (says_pass c.if-not-used_row.false-raw (says_is c.used_row.ensures), omega arith))))

@@ -17,14 +17,14 @@ link_ok_spec =
     (λ c. search rules)
     (λ c κs. search rules)
     (λ c. fails
-    (λ q. says_fail c.if-not-used_row.true-raw (says_is c.used_row.ensures) (of_down _ _ _ c.if-p-eq0.false q).0))
+    (λ q. says_fail c.if-not-used_row.true-raw (says_is c.used_row.ensures) (of_down (view c.args.rows c.args.words.now) _ _ c.if-p-eq0.false q).0))
     (λ c κs. let u = used_row (view c.args.rows c.args.words.now) _
     (says_pass c.if-not-used_row.false-raw (says_is c.used_row.ensures)) in
     let r = c.requires in omega arith)
     (λ c. fails
-    (λ q. let z = of_down _ _ _ c.if-p-eq0.false q in
+    (λ q. let z = of_down (view c.args.rows c.args.words.now) _ _ c.if-p-eq0.false q in
     let e = c.get.ensures in let t = c.if-get-below.true in omega arith))
     (λ c. let e = c.get.ensures in
     let t = c.if-get-below.false in
-    holds (down_of _ _ _ c.if-p-eq0.false
+    holds (down_of (view c.args.rows c.args.words.now) _ _ c.if-p-eq0.false
     (says_pass c.if-not-used_row.false-raw (says_is c.used_row.ensures), omega arith))))

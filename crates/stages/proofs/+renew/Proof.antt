@@ -63,14 +63,14 @@ pub +renew_spec : {M : Type 1} → statement M
     (λ c κs. renew-low c.requires.1
     (test_yes c.is_row.ensures
     c.if-not-is_row.false-raw) c.row_of.ensures
-    c.before.before.Node-at.ensures
+    c.node_at-n.ensures
     c.requires.0)
     (λ c κs. renew-high
     c.requires.1
     (test_yes
     c.is_row.ensures
     c.if-not-is_row.false-raw) c.row_of.ensures
-    c.before.before.before.before.before.before.before.before.before.Node-at.ensures
+    c.node_at-n.ensures
     c.requires.0 c.renew.ensures
     c.renew.auto.seen)
     (λ c κs. let l =

@@ -122,7 +122,7 @@ pub +survey_part_survey_row_spec : {M : Type 1} → statement M
     c.requires.1.1 c.row_of.ensures
     c.in-At.is
     c.odd_known-known.ensures c.mark_added.ensures
-    c.before.before.before.before.Node-at.ensures
+    c.node_at-n.ensures
     c.requires.0
     c.mark_added.auto.reached
     c.mark_added.auto.added)
@@ -140,7 +140,7 @@ pub +survey_part_survey_row_spec : {M : Type 1} → statement M
     c.in-At.is
     c.odd_known-known.ensures
     c.mark_added.ensures
-    c.before.before.before.before.before.before.before.before.before.before.before.before.before.before.before.before.before.before.Node-at.ensures
+    c.node_at-n.ensures
     (c.survey_part.ensures
     (not-false _ c.if-not-survey_part.false-raw))
     c.requires.0
@@ -171,7 +171,7 @@ pub +survey_part_survey_row_spec : {M : Type 1} → statement M
     c.in-At.is
     c.odd_known-known.ensures
     c.mark_added.ensures
-    c.before.before.before.before.before.before.before.before.before.before.before.before.before.before.before.before.before.before.before.before.before.before.before.before.before.before.before.before.before.before.before.before.before.Node-at.ensures
+    c.node_at-n.ensures
     (c.survey_part.ensures
     (not-false _
     c.if-not-survey_part.false-raw))
@@ -198,7 +198,7 @@ pub +survey_part_survey_row_spec : {M : Type 1} → statement M
     c.in-At.is
     c.odd_known-known.ensures
     c.mark_added.ensures
-    c.before.before.before.before.before.before.before.before.before.before.before.before.before.before.before.before.before.before.before.before.before.before.before.before.before.before.before.before.before.before.before.before.before.before.before.before.Node-at.ensures
+    c.node_at-n.ensures
     (c.survey_part.ensures
     (not-false _
     c.if-not-survey_part.false-raw))

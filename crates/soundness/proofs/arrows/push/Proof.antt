@@ -27,5 +27,4 @@ push_spec =
     (λ c. search rules)
     (λ c. search rules)
     (λ c. search rules)
-    (λ c. let c1 = c.before.before.before.before.before in let c2 = c1.before.before.before in
-    pushed_new _ c2.requires.0 c2.requires.1 c1.if-a-eq-NOTHING.false))
+    (λ c. pushed_new _ c.requires.0 c.requires.1 c.if-a-eq-NOTHING.false))

@@ -20,13 +20,13 @@ arrow_cells_spec =
     (λ c. search rules)
     (λ c. search rules)
     (λ c κs. let t = c.if-a-lt2.false in row-yes _ (omega arith))
-    (λ c κs. let c1 = c.before.before.before.before.before in let t = c.if-a-lt2.false in
-    let r = row_led _ c1.requires.good c1.requires.arrow (row-yes _ (omega arith)) c.row_of.ensures in let h = r.place in
-    let e = c1.requires.size in (r.below, c1.requires.good.sizes.room, omega arith))
+    (λ c κs. let t = c.if-a-lt2.false in
+    let r = row_led _ c.requires.good c.requires.arrow (row-yes _ (omega arith)) c.row_of.ensures in let h = r.place in
+    let e = c.requires.size in (r.below, c.requires.good.sizes.room, omega arith))
     (λ c κs. search rules)
     (λ c. search rules)
-    (λ c. let c1 = c.before.before.before.before.before in let c2 = c1.before.before.before in let t = c1.if-a-lt2.false in
-    recalled c2.requires (row_led _ c2.requires.good c2.requires.arrow (row-yes _ (omega arith))
+    (λ c. let t = c.if-a-lt2.false in
+    recalled c.requires (row_led _ c.requires.good c.requires.arrow (row-yes _ (omega arith))
     c.row_of.ensures) c.recall-known.ensures c.if-known-ne0.true c.carried.ensures)
     (λ c κs. search rules)
     (λ c. search rules)

@@ -45,95 +45,50 @@ pub +apart_spec : {M : Type 1} → statement M
     apart.Post
     (λ c. walk_none c.requires.1 c.if-from-to.true)
     (λ c. walk-nothing c.requires.1 c.if-b-eq-NOTHING.true)
-    (λ c. let c1 = c.before.before.before.before.before.before.before.before.before in
-    walk-everything c1.requires.1 c.if-from-to.false c.if-b-eq-EVERYTHING.true)
-    (λ c κs. let c1 = c.before.before.before.before.before.before.before.before.before in
-    (c1.requires.1.asks.good, c1.requires.1.against.arrow, (is_row_lem _ c.if-b-eq-NOTHING.false c.if-b-eq-EVERYTHING.false)))
-    (λ c κs. let c1 = c.before.before.before.before in let c2 =
-    c1.before.before.before.before.before.before.before.before.before.before in
-    tables_asked c2.pre.1 (is_row_lem _ c1.if-b-eq-NOTHING.false c1.if-b-eq-EVERYTHING.false) (says-yes
-    c.if-deep.true c1.deep.ensures))
+    (λ c. walk-everything c.requires.1 c.if-from-to.false c.if-b-eq-EVERYTHING.true)
+    (λ c κs. (c.requires.1.asks.good, c.requires.1.against.arrow, (is_row_lem _ c.if-b-eq-NOTHING.false c.if-b-eq-EVERYTHING.false)))
+    (λ c κs. tables_asked c.requires.1 (is_row_lem _ c.if-b-eq-NOTHING.false c.if-b-eq-EVERYTHING.false) (says-yes
+    c.if-deep.true c.deep.ensures))
     (λ c. search rules)
     (λ c. search rules)
     (λ c. search rules)
-    (λ c. let c1 = c.before.before.before.before in let c2 =
-    c1.before.before.before.before.before.before.before.before.before.before.before.before.before.before.before in
-    walk_tables c2.pre.1 c1.tables_apart.ensures)
-    (λ c κs. let c1 = c.before.before.before.before in let c2 =
-    c1.before.before.before.before.before.before.before.before.before.before in
-    step-asked c2.pre.1 (is_row_lem _ c1.if-b-eq-NOTHING.false c1.if-b-eq-EVERYTHING.false) (says-no
-    c.if-deep.false c1.deep.ensures))
-    (λ c κs. let c1 = c.before.before.before.before.before.before.before.before.before in
-    let c2 = c1.before.before.before.before in let c3 =
-    c2.before.before.before.before.before.before.before.before.before.before.before in
-    call-low (walk_at c3.pre.1 (says-no c2.if-deep.false c2.deep.ensures) c1.step-q.ensures) c3.pre.0
-    c1.step-q.auto.list c1.step-q.auto.found)
-    (λ c. let c1 = c.before.before.before.before.before.before.before.before.before.before.before in
-    let c2 = c1.before.before.before.before.before.before.before.before.before.before in
-    c1.apart.auto.list ∙ c2.step-q.auto.list)
-    (λ c. let c1 = c.before.before.before.before.before.before.before.before.before.before.before in
-    let c2 = c1.before.before.before.before.before.before.before.before.before.before in
-    c1.apart.auto.found ∙ c2.step-q.auto.found)
+    (λ c. walk_tables c.requires.1 c.tables_apart.ensures)
+    (λ c κs. step-asked c.requires.1 (is_row_lem _ c.if-b-eq-NOTHING.false c.if-b-eq-EVERYTHING.false) (says-no
+    c.if-deep.false c.deep.ensures))
+    (λ c κs. call-low (walk_at c.requires.1 (says-no c.if-deep.false c.deep.ensures) c.step-q.ensures) c.requires.0
+    c.step-q.auto.list c.step-q.auto.found)
+    (λ c. c.apart.auto.list ∙ c.step-q.auto.list)
+    (λ c. c.apart.auto.found ∙ c.step-q.auto.found)
     (λ c. search rules)
     (λ c. search rules)
     (λ c. search rules)
-    (λ c. let c1 = c.before.before.before.before.before.before.before.before.before.before.before in
-    let c2 = c1.before.before.before.before.before.before.before.before.before.before in
-    let c3 = c2.before.before.before.before in let c4 =
-    c3.before.before.before.before.before.before.before.before.before.before.before in
-    low-fails (walk_at c4.pre.1 (says-no c3.if-deep.false c3.deep.ensures) c2.step-q.ensures) c1.apart.ensures
+    (λ c. low-fails (walk_at c.requires.1 (says-no c.if-deep.false c.deep.ensures) c.step-q.ensures) c.apart.ensures
     c.if-not-apart.true-raw)
-    (λ c κs. let c1 = c.before.before.before.before.before.before.before.before.before.before.before.before.before.before.before.before in let c2 = c1.before.before.before.before.before.before.before.before.before.before in
-    let c3 = c2.before.before.before.before in let c4 =
-    c3.before.before.before.before.before.before.before.before.before.before.before in
-    call-high (walk_at c4.pre.1 (says-no c3.if-deep.left c3.deep.ensures) c2.step-q.ensures) c1.apart.ensures
-    c4.pre.0 (c1.apart.kept.1.1.1.1.1.1.1.1.1.0 ∙ c2.step-q.kept.1.1.1.1.1.1.1.0)
-    (c1.apart.kept.1.1.1.1.1.1.1.1.1.1.0 ∙ c2.step-q.kept.1.1.1.1.1.1.1.1.0)
-    c1.apart.kept.1.1.1.1.1.1.1.1.1.1.1.0 c1.apart.kept.1.1.1.1.1.1.1.1.1.1.1.1.0
-    c1.apart.kept.1.1.1.1.1.1.1.1.1.1.1.1.1.0)
-    (λ c. let c1 = c.before.before.before.before.before.before.before.before.before.before.before in
-    let c2 = c1.before.before.before.before.before.before.before.before.before.before.before.before.before.before.before.before.before in let c3 = c2.before.before.before.before.before.before.before.before.before.before in
-    c1.apart-2.auto.list ∙ c2.apart.kept.1.1.1.1.1.1.1.1.1.0
-    ∙ c3.step-q.kept.1.1.1.1.1.1.1.0)
-    (λ c. let c1 = c.before.before.before.before.before.before.before.before.before.before.before in
-    let c2 = c1.before.before.before.before.before.before.before.before.before.before.before.before.before.before.before.before.before in let c3 = c2.before.before.before.before.before.before.before.before.before.before in
-    c1.apart-2.auto.found ∙ c2.apart.kept.1.1.1.1.1.1.1.1.1.1.0
-    ∙ c3.step-q.kept.1.1.1.1.1.1.1.1.0)
+    (λ c κs. call-high (walk_at c.requires.1 (says-no c.if-deep.false c.deep.ensures) c.step-q.ensures) c.apart.ensures
+    c.requires.0 (c.apart.auto.list ∙ c.step-q.auto.list)
+    (c.apart.auto.found ∙ c.step-q.auto.found)
+    c.apart.auto.memo c.apart.auto.first
+    c.apart.auto.second)
+    (λ c. c.apart-2.auto.list ∙ c.apart.auto.list
+    ∙ c.step-q.auto.list)
+    (λ c. c.apart-2.auto.found ∙ c.apart.auto.found
+    ∙ c.step-q.auto.found)
     (λ c. search rules)
     (λ c. search rules)
     (λ c. search rules)
-    (λ c. let c1 = c.before.before.before.before.before.before.before.before.before.before.before in
-    let c2 = c1.before.before.before.before.before.before.before.before.before.before.before.before.before.before.before.before.before in let c3 = c2.before.before.before.before.before.before.before.before.before.before in
-    let c4 = c3.before.before.before.before in let c5 =
-    c4.before.before.before.before.before.before.before.before.before.before.before in
-    high-fails (walk_at c5.pre.1 (says-no c4.if-deep.left c4.deep.ensures) c3.step-q.ensures) c2.apart.ensures
-    c1.apart-2.ensures c.if-not-apart-2.true-raw)
-    (λ c κs. let c1 = c.before.before.before.before.before.before.before.before.before.before.before.before.before in
-    let c2 = c1.before.before.before.before.before.before.before.before.before.before.before.before.before.before.before.before.before in let c3 = c2.before.before.before.before.before.before.before.before.before.before in
-    let c4 = c3.before.before.before.before in let c5 =
-    c4.before.before.before.before.before.before.before.before.before.before.before in
-    remember-asked (walk_at c5.pre.1 (says-no c4.if-deep.left c4.before.deep.ensures) c3.step-q.ensures)
-    c2.apart.ensures c1.apart-2.ensures (c1.apart-2.auto.1.1.1.1.1.1.1.1.1.0
-    ∙ c2.apart.kept.1.1.1.1.1.1.1.1.1.0 ∙ c3.step-q.kept.1.1.1.1.1.1.1.0)
-    (c1.apart-2.auto.1.1.1.1.1.1.1.1.1.1.1.0 ∙ c2.apart.kept.1.1.1.1.1.1.1.1.1.1.1.0))
-    (λ c. let c1 = c.before.before.before.before.before.before.before.before.before.before.before.before.before.before.before.before in let c2 = c1.before.before.before.before.before.before.before.before.before.before.before.before.before.before.before.before.before in let c3 =
-    c2.before.before.before.before.before.before.before.before.before.before in
-    c1.apart-2.kept.1.1.1.1.1.1.1.1.1.0 ∙ c2.apart.kept.1.1.1.1.1.1.1.1.1.0
-    ∙ c3.step.kept.1.1.1.1.1.1.1.0)
-    (λ c. let c1 = c.before.before.before.before.before.before.before.before.before.before.before.before.before.before.before.before in let c2 = c1.before.before.before.before.before.before.before.before.before.before.before.before.before.before.before.before.before in let c3 =
-    c2.before.before.before.before.before.before.before.before.before.before in
-    c1.apart-2.kept.1.1.1.1.1.1.1.1.1.1.0 ∙ c2.apart.kept.1.1.1.1.1.1.1.1.1.1.0
-    ∙ c3.step.kept.1.1.1.1.1.1.1.1.0)
-    (λ c. let c1 = c.before.before.before.before.before.before.before.before.before.before.before.before.before.before.before.before in let c2 = c1.before.before.before.before.before.before.before.before.before.before.before.before.before.before.before.before.before in c.remember_all.auto.memo
-    ∙ c1.apart-2.kept.1.1.1.1.1.1.1.1.1.1.1.0 ∙ c2.apart.kept.1.1.1.1.1.1.1.1.1.1.1.0)
+    (λ c. high-fails (walk_at c.requires.1 (says-no c.if-deep.false c.deep.ensures) c.step-q.ensures) c.apart.ensures
+    c.apart-2.ensures c.if-not-apart-2.true-raw)
+    (λ c κs. remember-asked (walk_at c.requires.1 (says-no c.if-deep.false c.deep.ensures) c.step-q.ensures)
+    c.apart.ensures c.apart-2.ensures (c.apart-2.auto.list
+    ∙ c.apart.auto.list ∙ c.step-q.auto.list)
+    (c.apart-2.auto.memo ∙ c.apart.auto.memo))
+    (λ c. c.apart-2.auto.list ∙ c.apart.auto.list
+    ∙ c.step-q.auto.list)
+    (λ c. c.apart-2.auto.found ∙ c.apart.auto.found
+    ∙ c.step-q.auto.found)
+    (λ c. c.remember_all.auto.memo
+    ∙ c.apart-2.auto.memo ∙ c.apart.auto.memo)
     (λ c. search rules)
     (λ c. search rules)
-    (λ c. let c1 = c.before.before.before.before.before in
-    let c2 = c1.before.before.before.before.before.before.before.before.before.before.before in
-    let c3 = c2.before.before.before.before.before.before in
-    let c4 = c3.before.before.before.before.before.before.before.before.before.before.before in
-    let c5 = c4.before.before.before.before.before.before.before.before.before.before in
-    let c6 = c5.before.before.before.before in let c7 =
-    c6.before.before.before.before.before.before.before.before.before.before.before in
-    both_pass (walk_at c7.pre.1 (says-no c6.if-deep.false c6.before.deep.ensures) c5.step-q.ensures) c4.apart.ensures
-    c2.apart-2.ensures c3.if5.false c1.if6.false c.remember_all.ensures)
+    (λ c. both_pass (walk_at c.requires.1 (says-no c.if-deep.false c.deep.ensures) c.step-q.ensures) c.apart.ensures
+    c.apart-2.ensures c.if-not-apart.false-raw c.if-not-apart-2.false-raw c.remember_all.ensures)

@@ -34,50 +34,42 @@ tables_apart_spec =
     decreases_loop
     (λ c κs. c.requires.is_row)
     (λ c κs. table-second c.requires)
-    (λ c. let c1 = c.before.before.before.before.before.before.before.before.before in (
+    (λ c. (
       omega arith,
-      c1.requires.order,
+      c.requires.order,
       refl,
-      c1.requires.lists.first,
-      apart_none (view c1.args.rows c1.args.words.now)
-          c1.args.list.now,
+      c.requires.lists.first,
+      apart_none (view c.args.rows c.args.words.now)
+          c.args.list.now,
     ))
     (λ c. search rules)
-    (λ c. let c1 = c.before.before.before.before.before.before.before.before.before.before.before.before in
-    let t = c.loop-k-test.true in let p = c1.requires.within in omega arith)
-    (λ c κs. let c1 = c.before.before.before in let c2 =
-    c1.before.before.before.before.before.before.before.before.before.before in
-    table-first c2.pre c1.loop-k.invariant.0 c.loop-k-test.true refl c1.loop-k.invariant.2 c1.loop-k.invariant.3)
+    (λ c. let t = c.loop-k-test.true in let p = c.requires.within in omega arith)
+    (λ c κs. table-first c.requires c.loop-k.invariant.0 c.loop-k-test.true refl c.loop-k.invariant.2 c.loop-k.invariant.3)
     (λ c κs. search rules)
-    (λ c. let c1 = c.before.before.before.before in let c2 = c1.before.before.before.before in
-    c1.arrow_cells-x.auto.memo ∙ c2.loop-k.invariant.2)
+    (λ c. c.arrow_cells-x.auto.memo ∙ c.loop-k.invariant.2)
     (λ c. c.set_cells-y.auto.memo)
-    (λ c. let c1 = c.before.before.before.before in let c2 = c1.before.before.before.before in
-    let c3 = c2.before.before.before in let c4 = c3.before.before.before.before.before.before.before in
-    record {
-      says = fails (λ q. says_fail c.if-not-disjoint.true-raw (by_tables c4.requires c1.arrow_cells-x.ensures c3.set_cells-y.ensures
-          c.disjoint.ensures) (q _ c2.loop-k.invariant.0
-          c1.loop-k-test.true));
-      first = c1.arrow_cells-x.ensures.known;
-      second = c3.set_cells-y.ensures.sets;
+    (λ c. record {
+      says = fails (λ q. says_fail c.if-not-disjoint.true-raw (by_tables c.requires c.arrow_cells-x.ensures c.set_cells-y.ensures
+          c.disjoint.ensures) (q _ c.loop-k.invariant.0
+          c.loop-k-test.true));
+      first = c.arrow_cells-x.ensures.known;
+      second = c.set_cells-y.ensures.sets;
     })
     (λ c. let t = c.loop-k-test.true in omega arith)
     (λ c. let t = c.loop-k-test.true in omega arith)
-    (λ c. let c1 = c.before.before.before.before in let c2 = c1.before.before.before.before in
-    let c3 = c2.before.before.before.before.before.before.before.before.before.before in
-    let t = c1.loop-k-test.true in let h = c2.loop-k.invariant.0 in (
+    (λ c. let t = c.loop-k-test.true in let h = c.loop-k.invariant.0 in (
       omega arith,
       omega arith,
-      c1.arrow_cells-x.auto.memo ∙ c2.loop-k.invariant.2,
-      c1.arrow_cells-x.ensures.known,
-      apart_more (view c3.args.rows c3.args.words.now) c3.args.list.now c2.loop-k.invariant.4 refl (says_pass c.if-not-disjoint.false-raw
-          (by_tables c3.requires c1.arrow_cells-x.ensures c2.set_cells-y.ensures c.disjoint.ensures)),
+      c.arrow_cells-x.auto.memo ∙ c.loop-k.invariant.2,
+      c.arrow_cells-x.ensures.known,
+      apart_more (view c.args.rows c.args.words.now) c.args.list.now c.loop-k.invariant.4 refl (says_pass c.if-not-disjoint.false-raw
+          (by_tables c.requires c.arrow_cells-x.ensures c.set_cells-y.ensures c.disjoint.ensures)),
     ))
     (λ c. c.loop-k.invariant.2)
     (λ c. c.set_cells-y.auto.memo)
-    (λ c. let c1 = c.before in let c2 = c1.before.before.before in record {
+    (λ c. record {
       says = holds (λ j lo hi. let t = c.loop-k-test.false in
-          c1.loop-k.invariant.4 j lo (omega arith));
-      first = c1.loop-k.invariant.3;
-      second = c2.set_cells-y.ensures.sets;
+          c.loop-k.invariant.4 j lo (omega arith));
+      first = c.loop-k.invariant.3;
+      second = c.set_cells-y.ensures.sets;
     }))
