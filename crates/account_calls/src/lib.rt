@@ -1,5 +1,4 @@
-// The entry points over lent words and a lent list of accounts. `set`, `fresh` and `terms_at` take the list and are walked by hand; what
-// they call is covered.
+// The entry points over lent words and a lent list of accounts.
 #![tactic(auto)]
 
 ghost use Rattle.std.specs.Prelude.{◌≡◌};
@@ -73,6 +72,8 @@ pub fn set(
     let at = place as usize;
     let count = accounts.len();
     if at < count {
+        // read here, so that it is known to be a word
+        let _tally = accounts[at].tally;
         let x = set_named(words, count, place, accounts[at], r, most, bytes);
         add_rounds(accounts, at, rounds_of(x));
         return x;

@@ -171,7 +171,7 @@ module _ {W : View} {n low : ℕ} {w : List ℕ} where
             (let z = h.masks.size in let y = length-set N (2_048 + q) x in omega arith)
 
     -- an arrow is spent
-    pub notes-put : {M : List ℕ} {key goals : ℕ} → SpentAt W n low w key goals → KeyPut N key goals M → NotesHold W n low w M
+    pub notes-put : {key goals : ℕ} {M : List ℕ} → SpentAt W n low w key goals → KeyPut N key goals M → NotesHold W n low w M
     notes-put s none = h
     notes-put {key = key} {goals} s (put q all lq g) = record {
       bits = h.bits;

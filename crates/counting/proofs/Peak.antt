@@ -127,8 +127,8 @@ module _ {m N limit : ℕ} {W X : View} {roots c : List ℕ} {s : Step} {o : Mad
         ≡ 2 * X.header BITS = p.ready.levels-is
         ∙ ap (λ (b : ℕ). 2 * b) (sym (f.header BITS (omega arith) (omega arith) (omega arith) (omega arith))) in
         let h : r ≡ max q.peak (need (2 * X.header BITS) (map (den (2 * X.header BITS) (rows_of X)) (a ∷ live_at W roots s))) =
-            rw (← live_same f (roots ++ operands_of s)) n.raised in
+        rw (← live_same f (roots ++ operands_of s)) n.raised in
         let l : r ≡ max q.peak (need m (map (den m (rows_of X)) (a ∷ live_at W roots s))) =
-            subst (λ (b : ℕ). r ≡ max q.peak (need b (map (den b (rows_of X)) (a ∷ live_at W roots s)))) (sym em) h in
+        subst (λ (b : ℕ). r ≡ max q.peak (need b (map (den b (rows_of X)) (a ∷ live_at W roots s)))) (sym em) h in
         let k = l ∙ ap (max q.peak) (same-need (live_at W roots s) answered.post.kept answered.post.result.0) in
         (answered, n.counts, ap (λ (x : ℕ). record { rounds = q.rounds; peak = x }) k)

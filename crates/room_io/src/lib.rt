@@ -1,4 +1,4 @@
-// The program's reading and writing: records from standard input through one buffer, lines to standard output through another.
+// The program's reading and writing: records from a reader through one buffer, lines to a writer through another.
 #![tactic(auto)]
 
 ghost use Rattle.std.specs.Prelude.{◌≡◌, ◌-◌, ◌≤◌, ◌<◌, length, take, drop};
@@ -11,8 +11,7 @@ ghost use Rattle.room_io.specs.Calls.{answer_of, brought_of, ReadSays, Sums, aft
 ghost use Rattle.room_io.specs.Served.{Served};
 
 use rooms::{Said, answer};
-use std::io;
-use std::io::{Read, Write};
+use std::io::{self, Read, Write};
 
 // How far the program is: the bytes at hand stand in the input buffer from `start` to `end`, and `pending` bytes at the front of the output
 // buffer are still to be written. `ended`: no more bytes will come. `done`: the last line is written, or a read or a write failed.
@@ -222,18 +221,10 @@ fn serve(
     flush(writer, output, p)
 }
 
-// Reads records from standard input to their end and writes their lines; 16,384 words of zeros are lent.
-pub fn run(rt: &(impl Input + Print)) {
+// Reads records to the reader's end and writes their lines to the writer; 16,384 words of zeros are lent.
+pub fn run(reader: &mut impl Read, writer: &mut impl Write) {
     let mut words = [0u32; 16384];
     let mut input = [0u8; 4096];
     let mut output = [0u8; 4096];
-    let mut reader = rt.reader();
-    let mut writer = io::writer(rt);
-    serve(
-        &mut reader,
-        &mut writer,
-        &mut words,
-        &mut input,
-        &mut output,
-    );
+    serve(reader, writer, &mut words, &mut input, &mut output);
 }

@@ -2,5 +2,5 @@
 #![tactic(auto)]
 
 fn main(rt: HostRuntime) {
-    room_io::run(&rt);
+    room_io::run(&mut rt.stdin(), &mut rt.stdout());
 }

@@ -6,9 +6,10 @@ use Rattle.accounts.proofs.empty_tallies.Goals as goal
 
 pub loop-i-preserved : goal.loop-i-preserved
 loop-i-preserved c =
-    let h : c.loop-i.i < length c.args.accounts.now = omega arith in
-    (omega arith,
-      rw (add-one, c.with_none-next.ensures, c.loop-i.invariant.1) (emptied-next c.loop-i.i c.args.accounts.now h))
+    let h : c.loop-i.i < length c.args.accounts.now = omega arith in (
+      omega arith,
+      rw (add-one, c.with_none-next.ensures, c.loop-i.invariant.1) (emptied-next c.loop-i.i c.args.accounts.now h),
+    )
 
 pub returns : goal.returns
 returns c =

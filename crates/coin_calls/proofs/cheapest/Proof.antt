@@ -11,14 +11,11 @@ use Rattle.coin_calls.proofs.cheapest.Tie as tie
 use Rattle.coin_calls.proofs.cheapest.Reads as reads
 use Rattle.coin_calls.proofs.cheapest.Lts as lts
 
-cast_if1 : tie.Need-overflow-cast-if1
-cast_if1 c = search rules
-
 pub cheapest_spec : {M : Type 1} → statement M
 cheapest_spec =
     tie.close
     (tie.spec
-    cast_if1
+    (λ c. search rules)
     (λ c. fare_prices c.args.a c.args.b c.args.words.now c.args.prices.now c.args.work.now c.args.states.now c.args.relations.now c.if-prices.true)
     (λ c κs. search rules)
     (λ c. fare_unsound c.args.a c.args.b c.args.words.now c.args.prices.now c.args.work.now c.args.states.now c.args.relations.now c.if-prices.false (says_fail c.if-not-sound.true-raw c.sound.ensures))

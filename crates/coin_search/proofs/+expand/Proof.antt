@@ -53,14 +53,14 @@ pub +expand_spec : {M : Type 1} → statement M
     )
     (expand-at t)
     expand.Post
-    (λ c. let c1 = c.before.before.before.before in (
-      expands_nothing c1.requires.1 c1.args.wave.goals c.if-x-eq-NOTHING.true,
-      c1.requires.1.notes,
+    (λ c. (
+      expands_nothing c.requires.1 c.args.wave.goals c.if-x-eq-NOTHING.true,
+      c.requires.1.notes,
     ))
-    (λ c. let c1 = c.before.before.before.before in let f = few_bits c1.requires.1 in omega arith)
-    (λ c. let c1 = c.before.before.before.before in let f = made-few c1.requires.1 in record { fits = omega arith })
-    (λ c κs. let c1 = c.before.before.before.before.before in new-asks c1.requires.1 0 (made-node c1.requires.1))
-    (λ c. let c1 = c.before.before.before in c1.new_bits-new.auto.notes)
+    (λ c. let f = few_bits c.requires.1 in omega arith)
+    (λ c. let f = made-few c.requires.1 in record { fits = omega arith })
+    (λ c κs. new-asks c.requires.1 0 (made-node c.requires.1))
+    (λ c. c.new_bits-new.auto.notes)
     (λ c. expands_known c.requires.1 c.args.wave.goals (omega arith) (made-node c.requires.1) c.new_bits-new.ensures c.if-new-eq0.true)
     (λ c κs. (
       c.requires.1.adds,
@@ -69,8 +69,8 @@ pub +expand_spec : {M : Type 1} → statement M
           c.requires.1 c.args.wave.goals
           (omega arith) (made-node c.requires.1) c.new_bits-new.ensures c.if-p-wave.true,
     ))
-    (λ c. let c1 = c.before.before.before.before in c1.add_all.auto.work)
-    (λ c. let c1 = c.before.before.before.before in let c2 = c1.before.before.before.before.before.before.before.before in c1.add_all.auto.notes ∙ c2.new_bits-new.kept.1.0)
+    (λ c. c.add_all.auto.work)
+    (λ c. c.add_all.auto.notes ∙ c.new_bits-new.auto.notes)
     (λ c. expands_word c.requires.1 c.args.wave.goals (omega arith) (made-node
     c.requires.1) c.new_bits-new.ensures c.if-p-wave.true c.add_all.ensures)
     (λ c κs. (
@@ -79,31 +79,29 @@ pub +expand_spec : {M : Type 1} → statement M
           (omega arith) (made-node c.requires.1) c.new_bits-new.ensures) c.requires.1.goal (made-few c.requires.1),
       let f = few_bits c.requires.1 in omega arith,
     ))
-    (λ c. let c1 = c.before.before.before.before.before.before.before.before in c1.new_bits-new.auto.1.0)
+    (λ c. c.new_bits-new.auto.notes)
     (λ c. expands_spent c.requires.1 c.args.wave.goals (new-notes c.requires.1 c.args.wave.goals (omega arith) (made-node c.requires.1) c.new_bits-new.ensures) (made-node c.requires.1) (made-small c.requires.1) (lower-few c.requires.1) c.is_spent.ensures c.if-is_spent.true)
-    (λ c. let c1 = c.before.before.before.before.before.before.before.before.before.before.before.before.before.before in let f = few_bits c1.requires.1 in record { fits = omega arith })
-    (λ c κs. let c1 = c.before.before.before.before.before.before.before.before.before.before.before.before.before.before in let f = few_bits c1.requires.1 in omega arith)
-    (λ c κs. let c1 = c.before.before.before.before in let c2 = c1.before.before.before.before.before.before.before.before.before.before.before in step-asks c2.requires.1 c1.if-p-wave.false)
+    (λ c. let f = few_bits c.requires.1 in record { fits = omega arith })
+    (λ c κs. let f = few_bits c.requires.1 in omega arith)
+    (λ c κs. step-asks c.requires.1 c.if-p-wave.false)
     (λ c κs. (
       let q = c.requires.0 in let d = c.requires.1.depth in let e = c.if-p-wave.false in omega arith,
       low-asks c.requires.1 c.if-p-wave.false (new-notes c.requires.1 c.args.wave.goals (omega arith) (made-node c.requires.1) c.new_bits-new.ensures) c.step-low.ensures,
     ))
-    (λ c κs. let c1 = c.before.before.before.before.before.before.before.before.before.before.before.before in let
-    c2 = c1.before.before.before.before.before.before.before.before.before.before.before in step-asks c2.requires.1
-    c1.if-p-wave.false)
-    (λ c κs. let c1 = c.before.before.before.before.before.before.before in let c2 = c1.before.before.before.before.before.before.before.before in let c3 = c2.before.before.before.before.before.before.before.before.before.before.before in (
-      let q = c3.requires.0 in let d = c3.requires.1.depth in let e = c2.if-p-wave.false in omega arith,
-      high-asks c3.requires.1 c2.if-p-wave.false (made-node c3.requires.1) c1.expand-more.ensures c.step-high.ensures,
+    (λ c κs. step-asks c.requires.1
+    c.if-p-wave.false)
+    (λ c κs. (
+      let q = c.requires.0 in let d = c.requires.1.depth in let e = c.if-p-wave.false in omega arith,
+      high-asks c.requires.1 c.if-p-wave.false (made-node c.requires.1) c.expand-more.ensures c.step-high.ensures,
     ))
-    (λ c κs. let c1 = c.before.before.before.before.before in let c2 = c1.before.before.before.before.before.before.before.before.before.before.before.before.before.before.before.before in let c3 = c2.before.before.before.before.before.before.before.before.before.before.before in join-asks c3.requires.1 c2.if-p-wave.false (made-node c3.requires.1) c1.expand-most.ensures.1)
-    (λ c κs. let c1 = c.before.before.before in let c2 = c1.before.before.before.before.before.before in let c3 = c2.before.before.before.before.before.before.before.before.before.before.before.before.before.before.before.before in let c4 = c3.before.before.before.before.before.before.before.before.before.before.before in (
-      c4.requires.1.arrow,
-      spent-pre (joined-notes c4.requires.1 c3.if-p-wave.false (made-node c4.requires.1) c2.expand-most.ensures.1 c1.join.ensures) c4.requires.1.goal (made-few c4.requires.1),
-      let f = few_bits c4.requires.1 in omega arith,
+    (λ c κs. join-asks c.requires.1 c.if-p-wave.false (made-node c.requires.1) c.expand-most.ensures.1)
+    (λ c κs. (
+      c.requires.1.arrow,
+      spent-pre (joined-notes c.requires.1 c.if-p-wave.false (made-node c.requires.1) c.expand-most.ensures.1 c.join.ensures) c.requires.1.goal (made-few c.requires.1),
+      let f = few_bits c.requires.1 in omega arith,
     ))
-    (λ c. let c1 = c.before.before.before.before.before.before.before.before.before.before.before.before in let c2 =
-    c1.before.before.before.before.before.before.before.before in c1.expand-most.auto.work ∙ c2.expand.kept.1.0)
-    (λ c. let c1 = c.before.before.before.before.before.before in let c2 = c1.before.before.before.before.before.before in let c3 = c2.before.before.before.before.before.before.before.before in let c4 = c3.before.before.before.before.before.before.before.before.before.before.before.before.before in c.put_spent.auto.notes ∙ c1.join.auto.notes ∙ c2.expand-most.kept.1.1.0 ∙ c3.expand-more.kept.1.1.0 ∙ c4.new_bits-new.kept.1.0)
-    (λ c. let c1 = c.before.before.before.before.before.before in let c2 = c1.before.before.before.before.before.before in let c3 = c2.before.before.before in let c4 = c3.before.before.before.before.before in let c5 = c4.before.before.before in let c6 = c5.before in let c7 = c6.before.before.before.before in let c8 = c7.before.before.before.before.before.before.before.before.before.before.before in expands_halves c8.requires.1 c7.if-p-wave.false c8.args.wave.goals (made-node c8.requires.1) c6.bit-side.ensures c5.step-low.ensures c3.step-high.ensures c4.expand-more.ensures.0
-    c2.expand-most.ensures.0 (made-small c8.requires.1) (lower-few c8.requires.1) c2.expand-most.ensures.1 c1.join.ensures
+    (λ c. c.expand-most.auto.work ∙ c.expand-more.auto.work)
+    (λ c. c.put_spent.auto.notes ∙ c.join.auto.notes ∙ c.expand-most.auto.notes ∙ c.expand-more.auto.notes ∙ c.new_bits-new.auto.notes)
+    (λ c. expands_halves c.requires.1 c.if-p-wave.false c.args.wave.goals (made-node c.requires.1) c.bit-side.ensures c.step-low.ensures c.step-high.ensures c.expand-more.ensures.0
+    c.expand-most.ensures.0 (made-small c.requires.1) (lower-few c.requires.1) c.expand-most.ensures.1 c.join.ensures
     c.put_spent.ensures))

@@ -27,34 +27,34 @@ add_all_spec =
     (tie.spec
     invariant_loop
     decreases_loop
-    (λ c. let c1 = c.before.before.before in (
+    (λ c. (
       refl,
       refl,
       omega arith,
-      below-start c1.requires.0 c1.args.wave.low c1.args.s c1.args.mask,
-      c1.requires.1,
+      below-start c.requires.0 c.args.wave.low c.args.s c.args.mask,
+      c.requires.1,
     ))
-    (λ c κs. let c1 = c.before.before.before in let c2 = c1.before.before.before.before in (
-      adds_on c2.requires.0 c1.loop-left.invariant.3,
-      c1.loop-left.invariant.4,
-      c2.requires.2,
-      bit_below c2.args.mask _ _ (omega arith) c1.loop-left.invariant.2 c.loop-left-test.true,
+    (λ c κs. (
+      adds_on c.requires.0 c.loop-left.invariant.3,
+      c.loop-left.invariant.4,
+      c.requires.2,
+      bit_below c.args.mask _ _ (omega arith) c.loop-left.invariant.2 c.loop-left-test.true,
     ))
-    (λ c. let c1 = c.before.before.before.before.before.before.before in let c2 = c1.before in let c3 = c2.before.before.before.before in record {
-      fits = let l = bit_below c3.args.mask _ _ (omega arith) c2.loop-left.invariant.2 c1.loop-left-test.true in omega arith;
+    (λ c. record {
+      fits = let l = bit_below c.args.mask _ _ (omega arith) c.loop-left.invariant.2 c.loop-left-test.true in omega arith;
     })
-    (λ c. let c1 = c.before.before.before.before.before.before.before in let t = c1.loop-left-test.true in omega arith)
-    (λ c. let c1 = c.before.before.before.before in let c2 = c1.before.before.before.before in let c3 = c2.before.before.before.before in (
-      c1.settle-most.auto.work ∙ c2.loop-left.invariant.0,
-      c1.settle-most.auto.notes ∙ c2.loop-left.invariant.1,
-      half-next c3.args.mask _ _ c2.loop-left.invariant.2,
-      below_next c3.args.wave.low c3.args.s c3.args.mask c2.loop-left.j c3.requires.2 c2.loop-left.invariant.2 c2.loop-left.invariant.3 c1.settle-most.ensures.0,
-      c1.settle-most.ensures.1,
+    (λ c. let t = c.loop-left-test.true in omega arith)
+    (λ c. (
+      c.settle-most.auto.work ∙ c.loop-left.invariant.0,
+      c.settle-most.auto.notes ∙ c.loop-left.invariant.1,
+      half-next c.args.mask _ _ c.loop-left.invariant.2,
+      below_next c.args.wave.low c.args.s c.args.mask c.loop-left.j c.requires.2 c.loop-left.invariant.2 c.loop-left.invariant.3 c.settle-most.ensures.0,
+      c.settle-most.ensures.1,
     ))
     (λ c. c.loop-left.invariant.0)
     (λ c. c.loop-left.invariant.1)
-    (λ c. let c1 = c.before.before.before.before.before in (
-      below_end c1.args.wave.low c1.args.s c1.args.mask
+    (λ c. (
+      below_end c.args.wave.low c.args.s c.args.mask
           c.loop-left.j c.loop-left.invariant.3 (let e = c.loop-left.invariant.2 in let z = c.loop-left-test.false in omega
           arith),
       c.loop-left.invariant.4,

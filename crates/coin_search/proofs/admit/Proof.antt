@@ -13,8 +13,8 @@ admit_spec =
     (tie.spec
     (λ c κs. let r = c.requires.0.room in let l = c.requires.1 in omega arith)
     (λ c. search rules)
-    (λ c. let c1 = c.before.before.before.before in admit-marked c1.requires.0 c.mark_of.ensures c.if-mark_of-ne0.true)
-    (λ c κs. let c1 = c.before.before.before.before.before in add-asks c1.requires.0 c1.requires.1 c.mark_of.ensures c.if-mark_of-ne0.false)
+    (λ c. admit-marked c.requires.0 c.mark_of.ensures c.if-mark_of-ne0.true)
+    (λ c κs. add-asks c.requires.0 c.requires.1 c.mark_of.ensures c.if-mark_of-ne0.false)
     (λ c. search rules)
-    (λ c. let c1 = c.before.before.before.before in let c2 = c1.before in let c3 = c2.before.before.before in admit-one
-    c3.requires.0 c3.requires.1 c2.mark_of.ensures c1.if-mark_of-ne0.false c.add.ensures))
+    (λ c. admit-one
+    c.requires.0 c.requires.1 c.mark_of.ensures c.if-mark_of-ne0.false c.add.ensures))

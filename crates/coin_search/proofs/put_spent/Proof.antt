@@ -17,11 +17,11 @@ put_spent_spec =
     (λ c κs. c.requires.0)
     (λ c κs. c.requires.2)
     (λ c. none)
-    (λ c κs. let e = c.before.before.before.before.before in (
-      (let m = level-most (view e.args.wave.rows e.args.words.now) e.args.x e.requires.0
+    (λ c κs. (
+      (let m = level-most (view c.args.wave.rows c.args.words.now) c.args.x c.requires.0
           in let l = c.level_of-level.ensures in omega arith),
-      e.requires.1.lower,
-      e.requires.1.node-small,
+      c.requires.1.lower,
+      c.requires.1.node-small,
     ))
     (λ c κs. (c.requires.1.size, omega arith))
     (λ c. search rules)
@@ -29,8 +29,7 @@ put_spent_spec =
     (λ c κs. let s = c.requires.1.size in (omega arith, omega arith))
     (λ c. search rules)
     (λ c.
-    let e = c.before.before.before.before.before.before.before.before.before.before.before.before in
-    key_put (view e.args.wave.rows e.args.words.now) e.args.x e.args.node e.args.wave.lower
+    key_put (view c.args.wave.rows c.args.words.now) c.args.x c.args.node c.args.wave.lower
     c.level_of-level.ensures
     c.spent_key-key.ensures _ _
     c.goals_with-goals.ensures c.put_pair.ensures))

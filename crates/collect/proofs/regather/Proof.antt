@@ -47,11 +47,13 @@ regather_spec =
     let e = c.listed-i.ensures in let m = c.marked.ensures in (
       omega arith,
       elim c.if-marked.branch [
-        then-marked w ↦ ap length w.words-is ∙ w.append.auto.words ∙ v.1
-        | else-marked w ↦ ap length w.words-is ∙ v.1 ],
+        | then-marked w ↦ ap length w.words-is ∙ w.append.auto.words ∙ v.1
+        | else-marked w ↦ ap length w.words-is ∙ v.1
+      ],
       elim c.if-marked.branch [
-        then-marked w ↦ next-keep p v.2 t e (sym m ∙ w.if-marked.true) (ap (view c.args.rows) w.words-is ∙ w.append.ensures)
-        | else-marked w ↦ next-skip p v.2 t e (λ o. true≢false (sym o ∙ sym m ∙ w.if-marked.false)) (ap (view c.args.rows) w.words-is) ],
+        | then-marked w ↦ next-keep p v.2 t e (sym m ∙ w.if-marked.true) (ap (view c.args.rows) w.words-is ∙ w.append.ensures)
+        | else-marked w ↦ next-skip p v.2 t e (λ o. true≢false (sym o ∙ sym m ∙ w.if-marked.false)) (ap (view c.args.rows) w.words-is)
+      ],
     ))
     (λ c. c.loop-k.invariant.1)
     (λ c. let v = c.loop-k.invariant in

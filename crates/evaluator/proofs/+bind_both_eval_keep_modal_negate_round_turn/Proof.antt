@@ -30,6 +30,7 @@ use Rattle.evaluator.proofs.+bind_both_eval_keep_modal_negate_round_turn.Lts-bot
 use Rattle.evaluator.proofs.eval.Reads as eval
 use Rattle.evaluator.proofs.eval.Kinds as eval-kinds
 use Rattle.evaluator.proofs.+bind_both_eval_keep_modal_negate_round_turn.Lts-eval as eval-lts
+use Rattle.evaluator.proofs.+bind_both_eval_keep_modal_negate_round_turn.Lts-eval.{in-Both+in-Until, in-Binder}
 use Rattle.evaluator.proofs.keep.Reads as keep
 use Rattle.evaluator.proofs.keep.Kinds as keep-kinds
 use Rattle.evaluator.proofs.+bind_both_eval_keep_modal_negate_round_turn.Lts-keep as keep-lts
@@ -321,7 +322,7 @@ pub +bind_both_eval_keep_modal_negate_round_turn_spec : {M : Type 1} → stateme
       arith,
       read-inside c.requires.1.0.part.stands
           c.lead_at.ensures c.in-Is.is,
-      c.before.before.before.before.before.before.before.before.before.well-formed,
+      c.well_formed,
     ))
     (λ c. omega
     (arith, read-depth c.requires.1.0.part.stands))
@@ -445,17 +446,17 @@ pub +bind_both_eval_keep_modal_negate_round_turn_spec : {M : Type 1} → stateme
             c.requires.0,
           ),
       (
-        ⊎_elim
-            (λ w. until-asked
-            c.requires.1.0
-            c.lead_at.ensures
-            c.in-Is.is (w.1.given.1 ∙ ap Both w.4.given.1) w.7
-            w.6.ensures)
-            (λ w. bind-asked
-            c.requires.1.0
-            c.lead_at.ensures
-            c.in-Is.is w.1.given.1 w.3)
-            c.match-t.branch,
+        elim c.match-t.branch [
+          | in-Both+in-Until w ↦ until-asked
+              c.requires.1.0
+              c.lead_at.ensures
+              c.in-Is.is (w.in-Both.is ∙ ap Both w.in-Until.is) w.body-is
+              w.until_body.ensures
+          | in-Binder w ↦ bind-asked
+              c.requires.1.0
+              c.lead_at.ensures
+              c.in-Is.is w.in-Binder.is w.body-is
+        ],
         c.requires.1.1,
       ),
     ))
@@ -463,19 +464,19 @@ pub +bind_both_eval_keep_modal_negate_round_turn_spec : {M : Type 1} → stateme
     (λ c. search rules)
     (λ c. search rules)
     (λ c. (
-      ⊎_elim
-          (λ w. until-answered
-          c.requires.1.0
-          c.lead_at.ensures
-          c.in-Is.is
-          (w.1.given.1 ∙ ap Both w.4.given.1) w.7 w.6.ensures
-          c.bind.ensures.0)
-          (λ w. bind-answered
-          c.requires.1.0
-          c.lead_at.ensures
-          c.in-Is.is
-          w.1.given.1 w.3 c.bind.ensures.0)
-          c.match-t.branch,
+      elim c.match-t.branch [
+        | in-Both+in-Until w ↦ until-answered
+            c.requires.1.0
+            c.lead_at.ensures
+            c.in-Is.is
+            (w.in-Both.is ∙ ap Both w.in-Until.is) w.body-is w.until_body.ensures
+            c.bind.ensures.0
+        | in-Binder w ↦ bind-answered
+            c.requires.1.0
+            c.lead_at.ensures
+            c.in-Is.is w.in-Binder.is w.body-is
+            c.bind.ensures.0
+      ],
       c.bind.ensures.1,
     )))
     (λ t. keep-lts.spec (

@@ -16,16 +16,16 @@ joined_spec =
     (λ c κs. search rules)
     (λ c κs. search rules)
     (λ c. joins-not-one c.args.mask c.args.value c.args.mask2
-    c.args.value2 c.never.ensures c.before.before.fits-2.ensures c.if-not-fits.true-raw)
+    c.args.value2 c.never.ensures c.fits.ensures c.if-not-fits.true-raw)
     (λ c. search rules)
     (λ c. search rules)
     (λ c. joins-not-two c.args.mask c.args.value
     c.args.mask2 c.args.value2 c.never-then-not-fits-2.ensures
-    c.before.before.fits3.ensures c.if-not-fits-2.true-raw)
+    c.fits-2.ensures c.if-not-fits-2.true-raw)
     (λ c κs. search rules)
     (λ c. search rules)
     (λ c. joins-both c.args.mask
     c.args.value c.args.mask2
-    c.args.value2 c.fits-2.ensures
-    c.if-not-fits.false-raw c.before.before.before.fits3.ensures c.if-not-fits-2.false-raw
+    c.args.value2 c.fits.ensures
+    c.if-not-fits.false-raw c.fits-2.ensures c.if-not-fits-2.false-raw
     c.wide.ensures c.wide-2.ensures))

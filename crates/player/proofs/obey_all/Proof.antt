@@ -50,7 +50,7 @@ obey_all_spec =
       arith,
       room_at c.loop-at.invariant.0 e room
           c.loop-at-test.true,
-      c.before.before.before.before.before.before.before.before.before.before.before.before.before.before.before.before.well-formed,
+      c.well_formed,
     ))
     (λ c. let n =
     next-at

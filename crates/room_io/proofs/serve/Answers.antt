@@ -30,7 +30,7 @@ returns g c = upto-served c.requires.0
     (record { order = omega arith; within = omega arith; waiting = omega arith; enough = c.requires.1; line = c.requires.2 })
     c.loop-turns.invariant.so_far
     (elim c.loop-turns-test.branch [
-      then-loop-turns-test+else-not-p w ↦ inl w.if-not-p.false
+      | then-loop-turns-test+else-not-p w ↦ inl w.if-not-p.false
       | else-loop-turns-test w ↦ inr w.loop-turns-test.false
     ])
     c.flush.ensures

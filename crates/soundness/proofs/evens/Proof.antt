@@ -56,7 +56,7 @@ evens_spec =
       v.0,
       omega arith,
       elim c.if-marked.branch [
-        then-marked+else-get-eq1 w ↦ below_more _ _ v.2 (λ _. let g = rw e at w.get.ensures in let n = w.if-get-eq1.false in omega arith)
+        | then-marked+else-get-eq1 w ↦ below_more _ _ v.2 (λ _. let g = rw e at w.get.ensures in let n = w.if-get-eq1.false in omega arith)
         | else-marked w ↦ below_more _ _ v.2 (λ o. absurd (true≢false (sym (rw (← e) at o) ∙ sym m ∙ w.if-marked.false)))
       ],
     ))
