@@ -16,8 +16,8 @@ respond_spec =
     (λ c. search rules)
     (λ c. search rules)
     (λ c. response_state c.args.bits
-    c.in-Made-2.given.0.0 c.in-Made-2.given.1 (power_fits c.args.bits c.requires) c.if-u-bits.true)
+    c.in-Made.u c.in-Made.is (power_fits c.args.bits c.requires) c.if-u-bits.true)
     (λ c. response_full c.args.bits c.in-Full.is)
     (λ c. response_spent c.args.bits c.in-Spent.is)
     (λ c. response_none c.args.bits
-    c.in-Made-2.given.0.0 c.in-Made-2.given.1 (power_fits c.args.bits c.requires) c.if-u-bits.false))
+    c.in-Made.u c.in-Made.is (power_fits c.args.bits c.requires) c.if-u-bits.false))
