@@ -8,6 +8,7 @@ import glob, json, os, re, sys
 os.chdir(os.path.join(os.path.dirname(os.path.abspath(__file__)), '..'))
 WORD = r"[^\s(){}\[\].,;:@\"«»|⟦⟧⌜⌝]+"
 PATH = re.compile(rf"(?<![\w.'\-])({WORD})((?:\.before)*)((?:\.{WORD})+)")
+FLAT = os.environ.get('FLAT') == '1'
 START = {'args', 'requires', 'ranges', 'lifetimes', 'well_formed', 'type_inv', 'utf8'}
 
 
@@ -111,10 +112,12 @@ def turn(text, function, binder, place, said):
             return m[0]
         if head in at:
             if path[0] in START:
-                return '.'.join([head] + path)
+                return '.'.join([binder if FLAT else head] + path)
             found = function.find(at[head], ups, path)
+            if FLAT and head != binder:
+                found = function.find(place, sum(1 for _ in iter(())), path) if not found else found
             if found:
-                return '.'.join([head] + found)
+                return '.'.join([binder if FLAT else head] + found)
         if (ups or head == binder or head in at) and norm(path[0]) in function.table:
             found = function.table[norm(path[0])]
             if len(found) == 1:
@@ -123,7 +126,14 @@ def turn(text, function, binder, place, said):
             said.append(f'{m[0]}: {sorted(x[0] for x in found)}')
         return m[0]
 
-    return PATH.sub(one, text)
+    text = PATH.sub(one, text)
+    while FLAT:
+        # names that nothing uses any more
+        new = re.sub(rf"let ({WORD}) = {WORD}(?:\.before)+ in\s*(?![\s\S]*(?<![\w.-])\1\.)", '', text)
+        if new == text:
+            break
+        text = new
+    return text
 
 
 def args(text, i):

@@ -1,4 +1,3 @@
-pub mod Row
 pub mod AccountLaws
 pub mod Listed
 pub mod TermsLaws

@@ -1,5 +1,4 @@
 pub mod Given
 pub mod Check
 pub mod PlayingLaws
-pub mod Local
 pub mod Games

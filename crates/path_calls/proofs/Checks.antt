@@ -89,7 +89,10 @@ module _ (bk : Book) (a b t : ℕ) (list : List ℕ) where
       where
         go : {A B : List Bool} {R : Pairs} (o p : Option (List Bool)) (q : Option Pairs) → o ≡ some A → p ≡ some B → q ≡ some R
             → over_filled bk o p q list ≡ ends (outcome bk.n bk.N (live_of bk) (inside q) (inside o) (inside p) (length list)) list
-        go {A} {B} {R} o p q ea eb er = rw (ea, eb, er) refl
+        go none p q ea eb er = cc
+        go (some A) none q ea eb er = cc
+        go (some A) (some B) none ea eb er = cc
+        go (some A) (some B) (some R) ea eb er = refl
 
 -- ---- refusals by the checks
 

@@ -16,19 +16,19 @@ set_steps_spec =
     (λ c κs. set-asks c.requires
     c.header_word-rows.ensures
     c.args.most
-    c.before.before.before.before.rows_Under.ensures c.rounds_under.ensures
+    c.rows_under.ensures c.rounds_under.ensures
     c.header_word.ensures)
     (λ c κs. set_storing
     c.requires
     c.header_word-rows.ensures
-    c.args.most c.before.before.before.before.before.before.before.before.rows_Under.ensures
+    c.args.most c.rows_under.ensures
     c.rounds_under.ensures _
     c.evaluate_set-done.ensures)
     (λ c κs. set_tidying
     c.requires
     c.header_word-rows.ensures
     c.args.most
-    c.before.before.before.before.before.before.before.before.before.before.before.before.rows_Under.ensures
+    c.rows_under.ensures
     c.rounds_under.ensures _
     c.evaluate_set-done.ensures _
     c.store_set-answer.ensures.1)
@@ -37,7 +37,7 @@ set_steps_spec =
     c.requires
     c.header_word-rows.ensures
     c.args.most
-    c.before.before.before.before.before.before.before.before.before.before.before.before.before.before.before.rows_Under.ensures
+    c.rows_under.ensures
     c.rounds_under.ensures _ c.evaluate_set-done.ensures _
     c.store_set-answer.ensures.1
     c.store_set-answer.ensures.0 _ c.tidy.ensures))

@@ -11,7 +11,7 @@ game_target_spec =
     tie.close
     (tie.spec
     (λ c κs. search rules)
-    (λ c. let c1 = c.before in let a = c1.args in target_in a.goal a.guest a.machine a.r c1.in_range.ensures
+    (λ c. let a = c.args in target_in a.goal a.guest a.machine a.r c.in_range.ensures
     c.if-in_range.true)
-    (λ c. let c1 = c.before in let a = c1.args in target_out a.goal a.guest a.machine a.r c1.in_range.ensures
+    (λ c. let a = c.args in target_out a.goal a.guest a.machine a.r c.in_range.ensures
     c.if-in_range.false))

@@ -11,6 +11,6 @@ in_range_spec =
     (tie.spec
     (λ c. range-goal c.args.goal c.args.guest c.args.machine c.if-goal-ge-REGISTERS.true)
     (λ c. range-guest c.args.goal c.args.guest c.args.machine c.if-guest-ge-RELATIONS.true)
-    (λ c. let c3 = c.before.before.before in range-machine c3.args.goal c3.args.guest c3.args.machine c.if-machine-ge-RELATIONS.true)
-    (λ c. let c1 = c.before in let c2 = c1.before in let c3 = c2.before in range-yes c3.args.goal c3.args.guest
-    c3.args.machine c2.if-goal-ge-REGISTERS.false c1.if-guest-ge-RELATIONS.false c.if-machine-ge-RELATIONS.false))
+    (λ c. range-machine c.args.goal c.args.guest c.args.machine c.if-machine-ge-RELATIONS.true)
+    (λ c. range-yes c.args.goal c.args.guest
+    c.args.machine c.if-goal-ge-REGISTERS.false c.if-guest-ge-RELATIONS.false c.if-machine-ge-RELATIONS.false))

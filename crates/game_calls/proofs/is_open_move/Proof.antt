@@ -13,7 +13,7 @@ is_open_move_spec =
     tie.close
     (tie.spec
     (λ c κs. search rules)
-    (λ c. let c1 = c.before in let c3 = c1.before.before in open_move-no _ (holds_at (view c3.args.rows c3.args.words.now)
-    c3.args.guest c3.args.state c3.args.press) c1.holds.ensures c.if-holds.true)
+    (λ c. open_move-no _ (holds_at (view c.args.rows c.args.words.now)
+    c.args.guest c.args.state c.args.press) c.holds.ensures c.if-holds.true)
     (λ c κs. search rules)
     (λ c. open_move-yes _ _ c.holds.ensures c.if-holds.false c.holds-2.ensures))

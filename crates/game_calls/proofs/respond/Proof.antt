@@ -15,9 +15,9 @@ respond_spec =
     (λ c. search rules)
     (λ c. search rules)
     (λ c. search rules)
-    (λ c. let c2 = c.before.before in let c4 = c2.before.before in response_state c4.args.bits
-    c2.in-Made-2.given.0.0 c2.in-Made-2.given.1 (power_fits c4.args.bits c4.requires) c.if-u-bits.true)
+    (λ c. response_state c.args.bits
+    c.in-Made.u c.in-Made.is (power_fits c.args.bits c.requires) c.if-u-bits.true)
     (λ c. response_full c.args.bits c.in-Full.is)
     (λ c. response_spent c.args.bits c.in-Spent.is)
-    (λ c. let c2 = c.before.before in let c4 = c2.before.before in response_none c4.args.bits
-    c2.in-Made-2.given.0.0 c2.in-Made-2.given.1 (power_fits c4.args.bits c4.requires) c.if-u-bits.false))
+    (λ c. response_none c.args.bits
+    c.in-Made.u c.in-Made.is (power_fits c.args.bits c.requires) c.if-u-bits.false))

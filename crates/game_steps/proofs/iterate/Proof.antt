@@ -27,57 +27,40 @@ iterate_spec =
     invariant_loop
     decreases_loop
     (λ c. let l = base-bits c.requires.0.plays.ready.base in omega arith)
-    (λ c. let c5 = c.before.before.before.before.before in loop-starts c5.requires.1 (power_fits c5.args.limits.bits (base-bits
-    c5.requires.0.plays.ready.base)))
+    (λ c. loop-starts c.requires.1 (power_fits c.args.limits.bits (base-bits
+    c.requires.0.plays.ready.base)))
     (λ c κs. let top : c.args.limits.rounds < 2 ^ 32 = search rules in
-    let c3 = c.before.before.before in let c6 = c3.before.before.before in
-    let c12 = c6.before.before.before.before.before.before in
-    (turn-asks c12.requires.0 c6.loop-counted.invariant c3.loop-counted-test.true top, c6.loop-counted.invariant.counts_of))
+    (turn-asks c.requires.0 c.loop-counted.invariant c.loop-counted-test.true top, c.loop-counted.invariant.counts_of))
     (λ c. search rules)
     (λ c κs. search rules)
-    (λ c. let c8 = c.before.before.before.before.before.before.before.before in
-    let c15 = c8.before.before.before.before.before.before.before in c8.evaluate_round-value.auto.words ∙ c15.loop-counted.invariant.words_size)
-    (λ c. let c8 = c.before.before.before.before.before.before.before.before in
-    let c15 = c8.before.before.before.before.before.before.before in c8.evaluate_round-value.auto.counts ∙ c15.loop-counted.invariant.counts-size)
-    (λ c. let c8 = c.before.before.before.before.before.before.before.before in
-    let c15 = c8.before.before.before.before.before.before.before in c8.evaluate_round-value.auto.stack
-    ∙ c15.loop-counted.invariant.stack_size_lem)
-    (λ c. let c1 = c.before in let c8 = c1.before.before.before.before.before.before.before in
-    let c12 = c8.before.before.before.before in let c15 = c12.before.before.before in
-    let c21 = c15.before.before.before.before.before.before in loop_halts c21.requires.0 c15.loop-counted.invariant
-    c8.evaluate_round-value.ensures.0 c12.loop-counted-test.true c1.in_default.in_default-own.keys2 c.halted.ensures)
-    (λ c. let c10 = c.before.before.before.before.before.before.before.before.before.before in
-    let c17 = c10.before.before.before.before.before.before.before in c10.evaluate_round-value.auto.words ∙ c17.loop-counted.invariant.words_size)
-    (λ c. let c10 = c.before.before.before.before.before.before.before.before.before.before in
-    let c17 = c10.before.before.before.before.before.before.before in c10.evaluate_round-value.auto.counts
-    ∙ c17.loop-counted.invariant.counts-size)
-    (λ c. let c10 = c.before.before.before.before.before.before.before.before.before.before in
-    let c17 = c10.before.before.before.before.before.before.before in c10.evaluate_round-value.auto.stack
-    ∙ c17.loop-counted.invariant.stack_size_lem)
-    (λ c. let c2 = c.before.before in let c10 = c2.before.before.before.before.before.before.before.before in
-    let c14 = c10.before.before.before.before in let c17 = c14.before.before.before in
-    let c23 = c17.before.before.before.before.before.before in loop-same c23.requires.0 c17.loop-counted.invariant
-    c10.evaluate_round-value.ensures.0 c14.loop-counted-test.true c2.in-Value-2.given.1 c.if-a-current.true)
-    (λ c κs. let c1 = c.before in let c3 = c1.before.before in let c11 = c3.before.before.before.before.before.before.before.before in let c15 = c11.before.before.before.before in let c18 = c15.before.before.before in
-    let c24 = c18.before.before.before.before.before.before in turn-notes c24.requires.0 c18.loop-counted.inv
-    c11.evaluate_round-value.ensures.0 c15.loop-counted-test.true c3.in-Value-2.given.1 c1.if-a-current.false c11.evaluate_round-value.kept.1.1.0)
-    (λ c. let c2 = c.before.before in let c4 = c2.before.before in
-    let c12 = c4.before.before.before.before.before.before.before.before in let c16 = c12.before.before.before.before in
-    let c19 = c16.before.before.before in let c25 = c19.before.before.before.before.before.before in omega (
+    (λ c. c.evaluate_round-value.auto.words ∙ c.loop-counted.invariant.words_size)
+    (λ c. c.evaluate_round-value.auto.counts ∙ c.loop-counted.invariant.counts-size)
+    (λ c. c.evaluate_round-value.auto.stack
+    ∙ c.loop-counted.invariant.stack_size_lem)
+    (λ c. loop_halts c.requires.0 c.loop-counted.invariant
+    c.evaluate_round-value.ensures.0 c.loop-counted-test.true c.in_default.in_default-own.keys2 c.halted.ensures)
+    (λ c. c.evaluate_round-value.auto.words ∙ c.loop-counted.invariant.words_size)
+    (λ c. c.evaluate_round-value.auto.counts
+    ∙ c.loop-counted.invariant.counts-size)
+    (λ c. c.evaluate_round-value.auto.stack
+    ∙ c.loop-counted.invariant.stack_size_lem)
+    (λ c. loop-same c.requires.0 c.loop-counted.invariant
+    c.evaluate_round-value.ensures.0 c.loop-counted-test.true c.in-Value.is c.if-a-current.true)
+    (λ c κs. turn-notes c.requires.0 c.loop-counted.invariant
+    c.evaluate_round-value.ensures.0 c.loop-counted-test.true c.in-Value.is c.if-a-current.false c.evaluate_round-value.auto.stack)
+    (λ c. omega (
       arith,
       turn-less
-          c25.requires.0 c19.loop-counted.invariant c12.evaluate_round-value.ensures.0 c16.loop-counted-test.true c4.in-Value-2.given.1 c2.if-a-current.false
-          c12.evaluate_round-value.auto.1.1.0,
-      c16.loop-counted-test.true,
+          c.requires.0 c.loop-counted.invariant c.evaluate_round-value.ensures.0 c.loop-counted-test.true c.in-Value.is c.if-a-current.false
+          c.evaluate_round-value.auto.stack,
+      c.loop-counted-test.true,
     ))
-    (λ c. let c2 = c.before.before in let c4 = c2.before.before in
-    let c12 = c4.before.before.before.before.before.before.before.before in let c16 = c12.before.before.before.before in
-    let c19 = c16.before.before.before in let c25 = c19.before.before.before.before.before.before in loop-turns c25.requires.0
-    c19.loop-counted.invariant c12.evaluate_round-value.ensures.0 c16.loop-counted-test.true c4.in-Value-2.given.1 c2.if-a-current.false
-    c12.evaluate_round-value.auto.1.1.0 c.note-noted.ensures _ refl c12.evaluate_round-value.ensures.1 c12.evaluate_round-value.auto.0
-    c12.evaluate_round-value.auto.1.0)
+    (λ c. loop-turns c.requires.0
+    c.loop-counted.invariant c.evaluate_round-value.ensures.0 c.loop-counted-test.true c.in-Value.is c.if-a-current.false
+    c.evaluate_round-value.auto.stack c.note-noted.ensures _ refl c.evaluate_round-value.ensures.1 c.evaluate_round-value.auto.words
+    c.evaluate_round-value.auto.counts)
     (λ c. c.loop-counted.invariant.words_size)
     (λ c. c.loop-counted.invariant.counts-size)
     (λ c. c.loop-counted.invariant.stack_size_lem)
-    (λ c. let c3 = c.before.before.before in let c9 = c3.before.before.before.before.before.before in loop-out c9.requires.0
-    c3.loop-counted.invariant c.loop-counted-test.false))
+    (λ c. loop-out c.requires.0
+    c.loop-counted.invariant c.loop-counted-test.false))

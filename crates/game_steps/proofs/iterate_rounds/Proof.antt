@@ -13,15 +13,14 @@ iterate_rounds_spec =
     (tie.spec
     (λ c κs. search rules)
     (λ c. search rules)
-    (λ c κs. let c4 = c.before.before.before.before in let c8 = c4.before.before.before.before in (
-      rounds-begin c8.requires
-          c4.forget.ensures,
+    (λ c κs. (
+      rounds-begin c.requires
+          c.forget.ensures,
       refl,
     ))
     (λ c. search rules)
     (λ c. search rules)
-    (λ c κs. let c4 = c.before.before.before.before in let c9 = c4.before.before.before.before.before in
-    let c13 = c9.before.before.before.before in (rounds-ask c13.requires c9.forget.ensures, c4.begin.ensures))
+    (λ c κs. (rounds-ask c.requires c.forget.ensures, c.begin.ensures))
     (λ c. search rules)
-    (λ c. let c4 = c.before.before.before.before in let c14 = c4.before.before.before.before.before.before.before.before.before.before in let c18 = c14.before.before.before.before in rounds-done c18.requires c14.forget.ensures
-    c4.iterate.ensures))
+    (λ c. rounds-done c.requires c.forget.ensures
+    c.iterate.ensures))

@@ -17,7 +17,7 @@ set_cells_spec =
     (λ c. search rules)
     (λ c. search rules)
     (λ c. let h = c.requires.size in omega arith)
-    (λ c. set_found (c.args.at % 1024) c.requires refl c.if-known-b.true)
+    (λ c. set_found (c.args.at % 1024) c.requires refl (omega arith))
     (λ c κs. c.requires.asked)
     (λ c. search rules)
     (λ c. search rules)
