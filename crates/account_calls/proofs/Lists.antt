@@ -6,8 +6,9 @@ use Prim.Native.Nat.{ℕ, zero, suc, ◌≤◌, ◌<◌, zero-le}
 use native.Mathlib.Nat.{le_refl, not-suc-le-zero, le_of_suc-le-suc}
 use native.Mathlib.Omega.{arith}
 use lib.Dec.{eqb}
-use lib.ListN.{length, get_or, get_or-eq_default, set as place}
+use lib.ListN.{length, get_or, set as place}
 use borrow.Author.Tests.{ne_eqb}
+use Rattle.std.specs.Prelude.{Result, Ok, Err}
 use Rattle.layout.specs.Refusals.{refusal_number}
 use Rattle.layout.proofs.Refusals.{refusal-some}
 use Rattle.layout.specs.declared.Refusal.{Refusal}
@@ -16,17 +17,15 @@ use Rattle.accounts.specs.declared.Terms.{Terms}
 use Rattle.accounts.specs.Account.{tally_top, counted}
 use Rattle.accounts.proofs.AccountLaws.{counted_none}
 use Rattle.accounts.specs.Listed.{none, emptied_to}
-use Rattle.accounts.specs.Terms.{terms_with, terms_of}
+use Rattle.accounts.specs.Terms.{terms_of}
 use Rattle.book.specs.Book.{Call, set}
 use Rattle.book.specs.Table.{Reply}
 use Rattle.book.specs.Tallies.{charged, freshened}
 use Rattle.contract.specs.Posts.{CallPost, FreshAllPost, SetAllPost}
 use Rattle.formula_steps.specs.Replies.{stored_reply}
+use Rattle.std.specs.Prelude.{Result, Ok, Err}
 use Rattle.formula_steps.specs.declared.Stored.{Stored}
-use Rattle.formula_steps.specs.declared.Stored.TheVariants as stored
 use Rattle.calls.specs.Replies.{started_reply}
-use Rattle.calls.specs.declared.Started.{Started}
-use Rattle.calls.specs.declared.Started.TheVariants as started
 use Rattle.account_calls.specs.Lists.{rounds_of, made_count, FreshListPost}
 
 -- ---- set
@@ -51,43 +50,37 @@ module _ (p r R : ℕ) (bs old new : List ℕ) (l : List Account) where
   c = set (terms_of l p) r R bs
 
   -- the account is there, and its rounds were added
-  pub found : {m : List Account} (x : Stored) → p < length l → (get_or l p none).tally ≤ tally_top
-      → CallPost (set (terms_with (length l) p (get_or l p none)) r R bs) old new (stored_reply x)
+  pub found : {m : List Account} (x : Result Stored Refusal) → p < length l → (get_or l p none).tally ≤ tally_top
+      → CallPost c old new (stored_reply x)
       → m ≡ place l p (counted (get_or l p none) (rounds_of x)) → SetAllPost p r R bs old new l m (stored_reply x)
   found {m} x i h d e = record { table = d; list = e ∙ added x }
     where
-      added : (x : Stored) → place l p (counted (get_or l p none) (rounds_of x)) ≡ charged l c (stored_reply x)
-      added (stored.Node a q k) = refl
-      added (stored.Refused k) = ap (place l p) (counted_none (get_or l p none) h) ∙ put_same l p i ∙ refused k _ l
+      added : (x : Result Stored Refusal) → place l p (counted (get_or l p none) (rounds_of x)) ≡ charged l c (stored_reply x)
+      added (Ok s) = refl
+      added (Err k) = ap (place l p) (counted_none (get_or l p none) h) ∙ put_same l p i ∙ refused k _ l
 
   -- no account at the place: nothing is changed
-  pub lost : (x : Stored) → length l ≤ p → CallPost (set (terms_with (length l) p none) r R bs) old new (stored_reply x)
-      → SetAllPost p r R bs old new l l (stored_reply x)
-  lost x h d =
-      record {
-        table =
-            subst (λ a. CallPost (set (terms_with (length l) p a) r R bs) old new (stored_reply x)) (sym (get_or-eq_default l none h)) d;
-        list = kept x;
-      }
+  pub lost : (x : Result Stored Refusal) → length l ≤ p → CallPost c old new (stored_reply x) → SetAllPost p r R bs old new l l (stored_reply x)
+  lost x h d = record { table = d; list = kept x }
     where
-      kept : (x : Stored) → l ≡ charged l c (stored_reply x)
-      kept (stored.Node a q k) = put-beyond l p (counted (get_or l p none) q) h
-      kept (stored.Refused k) = refused k _ l
+      kept : (x : Result Stored Refusal) → l ≡ charged l c (stored_reply x)
+      kept (Ok s) = put-beyond l p (counted (get_or l p none) s.rounds) h
+      kept (Err k) = refused k _ l
 
 -- ---- fresh
 
-pub made-within : (x : Started) (k : ℕ) → made_count x k ≤ k
-made-within started.Ready k = le_refl k
-made-within (started.Refused e) k = zero-le
+pub made-within : (x : Result (Unit {0}) Refusal) (k : ℕ) → made_count x k ≤ k
+made-within (Ok _) k = le_refl k
+made-within (Err _) k = zero-le
 
 -- so a list over words and accounts may begin with it (contract, Shared and Bigger)
-pub fresh-all : (n N : ℕ) (old new : List ℕ) (before after : List Account) (x : Started) → FreshListPost n N old new before after x
-    → FreshAllPost n N old new before after (started_reply x)
+pub fresh-all : (n N : ℕ) (old new : List ℕ) (before after : List Account) (x : Result (Unit {0}) Refusal)
+    → FreshListPost n N old new before after x → FreshAllPost n N old new before after (started_reply x)
 fresh-all n N old new before after x p = record { table = p.table.post; list = p.list }
 
-pub made_list : (l : List Account) (x : Started) → emptied_to (made_count x (length l)) l ≡ freshened l (started_reply x)
-made_list l started.Ready = refl
-made_list l (started.Refused e) = refused e (emptied_to (length l) l) l
+pub made_list : (l : List Account) (x : Result (Unit {0}) Refusal) → emptied_to (made_count x (length l)) l ≡ freshened l (started_reply x)
+made_list l (Ok _) = refl
+made_list l (Err e) = refused e (emptied_to (length l) l) l
 
 -- ---- a call's terms, as another function made them
 pub termed : {t u : Terms} (r R : ℕ) (bs old new : List ℕ) (y : Reply) → t ≡ u → CallPost (set t r R bs) old new y

@@ -2,59 +2,20 @@
 #![tactic(auto)]
 
 ghost use Rattle.std.specs.Prelude.{◌≡◌};
-ghost use Rattle.accounts.specs.Listed.{none};
-ghost use Rattle.accounts.specs.Terms.{terms_with, terms_of};
+ghost use Rattle.accounts.specs.Terms.{terms_of};
 ghost use Rattle.contract.specs.Posts.{SetAllPost};
 ghost use Rattle.formula_steps.specs.Replies.{stored_reply};
-ghost use Rattle.account_calls.specs.Lists.{rounds_of, FreshBoth, made_count, FreshListPost, SetPost};
+ghost use Rattle.account_calls.specs.Lists.{rounds_of, FreshBoth, made_count, FreshListPost};
 
 use accounts::{Account, Terms, add_rounds, empty_tallies, terms_of, unnamed};
-use calls::Started;
 use formula_steps::Stored;
-
-// A set call under the limits of an account that was read at a place.
-pub fn set_named(
-    words: &mut [u32],
-    count: usize,
-    place: u32,
-    a: Account,
-    r: u32,
-    most: u32,
-    bytes: &[u8],
-) -> Stored
-    ensures { SetPost (terms_with count place a) r most bytes.now words.old words.new
-        (stored_reply result) }
-{
-    formula_calls::set(words, terms_of(count, place, a), r, most, bytes)
-}
-
-// A set call whose list has no account at the place.
-pub fn set_unnamed(
-    words: &mut [u32],
-    count: usize,
-    place: u32,
-    r: u32,
-    most: u32,
-    bytes: &[u8],
-) -> Stored
-    ensures { SetPost (terms_with count place none) r most bytes.now words.old words.new
-        (stored_reply result) }
-{
-    formula_calls::set(words, unnamed(count, place), r, most, bytes)
-}
+use layout::Refusal;
 
 // The rounds of an answered set, 0 of a refused one.
-pub fn rounds_of(x: Stored) -> u32
+pub fn rounds_of(x: Result<Stored, Refusal>) -> u32
     ensures { result ≡ rounds_of x }
 {
-    match x {
-        Stored::Node {
-            number: _,
-            rounds: q,
-            peak: _,
-        } => q,
-        Stored::Refused(_) => 0,
-    }
+    if let Ok(stored) = x { stored.rounds } else { 0 }
 }
 
 // A set call under the limits of the account at a place of a lent list; its rounds go to that account's tally.
@@ -65,41 +26,36 @@ pub fn set(
     r: u32,
     most: u32,
     bytes: &[u8],
-) -> Stored
+) -> Result<Stored, Refusal>
     ensures { SetAllPost place r most bytes.now words.old words.new
         accounts.old accounts.new (stored_reply result) }
 {
+    let x = formula_calls::set(words, terms_at(accounts, place), r, most, bytes);
     let at = place as usize;
-    let count = accounts.len();
-    if at < count {
+    if at < accounts.len() {
         // read here, so that it is known to be a word
         let _tally = accounts[at].tally;
-        let x = set_named(words, count, place, accounts[at], r, most, bytes);
         add_rounds(accounts, at, rounds_of(x));
-        return x;
     }
-    set_unnamed(words, count, place, r, most, bytes)
+    x
 }
 
 // Makes an empty table, where so many accounts are lent.
-pub fn make(words: &mut [u32], count: usize, n: u32, rows: u32) -> Started
+pub fn make(words: &mut [u32], count: usize, n: u32, rows: u32) -> Result<(), Refusal>
     ensures { FreshBoth n rows count words.old words.new result }
 {
     calls::fresh(words, count, n, rows)
 }
 
 // How many tallies an answered fresh sets to 0: all, or none where it is refused.
-pub fn ready_count(x: Started, count: usize) -> usize
+pub fn ready_count(x: Result<(), Refusal>, count: usize) -> usize
     ensures { result ≡ made_count x count }
 {
-    match x {
-        Started::Ready => count,
-        Started::Refused(_) => 0,
-    }
+    if x.is_ok() { count } else { 0 }
 }
 
 // Makes an empty table, and sets the tallies of the accounts lent to 0.
-pub fn fresh(words: &mut [u32], accounts: &mut [Account], n: u32, rows: u32) -> Started
+pub fn fresh(words: &mut [u32], accounts: &mut [Account], n: u32, rows: u32) -> Result<(), Refusal>
     ensures { FreshListPost n rows words.old words.new accounts.old accounts.new result }
 {
     let count = accounts.len();

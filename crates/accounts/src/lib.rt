@@ -2,8 +2,8 @@
 // then the few thin functions over a lent list of accounts.
 #![tactic(auto)]
 
-ghost use Rattle.std.specs.Prelude.{◌≡◌, ◌<◌, ◌≤◌, min, length, get_or, set};
-ghost use Rattle.accounts.specs.Account.{tallied, counted, emptied, list_fits};
+ghost use Rattle.std.specs.Prelude.{◌≡◌, ◌<◌, ◌≤◌, length, get_or, set};
+ghost use Rattle.accounts.specs.Account.{counted, emptied, list_fits};
 ghost use Rattle.accounts.specs.Listed.{none, emptied_to};
 ghost use Rattle.accounts.specs.Terms.{terms_with, named, lent, rows_under, rounds_under, alone};
 
@@ -44,35 +44,13 @@ impl List {
     pub const TOP: u32 = 4294967295;
 }
 
-// The lesser of two numbers: both limits hold.
-pub fn lesser(x: u32, y: u32) -> u32
-    ensures { result ≡ min x y }
-{
-    if x < y {
-        return x;
-    }
-    y
-}
-
-// A tally after some rounds more: it stays at the top once it would pass that.
-fn add(tally: u32, rounds: u32) -> u32
-    ensures { result ≡ tallied tally rounds }
-{
-    if rounds > List::TOP - tally {
-        return List::TOP;
-    }
-    tally + rounds
-}
-
 // The account after an answered set of so many rounds.
 pub fn with_rounds(a: Account, rounds: u32) -> Account
     ensures { result ≡ counted a rounds }
 {
-    let tally = add(a.tally, rounds);
     Account {
-        rows: a.rows,
-        rounds: a.rounds,
-        tally: tally,
+        tally: a.tally.saturating_add(rounds),
+        ..a
     }
 }
 
@@ -80,11 +58,7 @@ pub fn with_rounds(a: Account, rounds: u32) -> Account
 pub fn with_none(a: Account) -> Account
     ensures { result ≡ emptied a }
 {
-    Account {
-        rows: a.rows,
-        rounds: a.rounds,
-        tally: 0,
-    }
+    Account { tally: 0, ..a }
 }
 
 // Whether a list of `count` accounts is 1 to 8 long and has one at the place.
@@ -111,14 +85,14 @@ pub fn is_named(t: Terms) -> bool
 pub fn rows_under(rows: u32, t: Terms) -> u32
     ensures { result ≡ rows_under rows t }
 {
-    lesser(rows, t.rows)
+    rows.min(t.rows)
 }
 
 // The rounds that a call may use.
 pub fn rounds_under(most: u32, t: Terms) -> u32
     ensures { result ≡ rounds_under most t }
 {
-    lesser(most, t.rounds)
+    most.min(t.rounds)
 }
 
 // What a call is told of an account that was read at a place.
@@ -184,10 +158,7 @@ pub fn empty_tallies(accounts: &mut [Account], count: usize)
     requires { count ≤ length accounts.old }
     ensures { accounts.new ≡ emptied_to count accounts.old }
 {
-    let mut i: usize = 0;
-    while i < count {
-        let next = with_none(accounts[i]);
-        accounts[i] = next;
-        i = i + 1;
+    for a in accounts[..count].iter_mut() {
+        *a = with_none(*a);
     }
 }

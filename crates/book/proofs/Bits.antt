@@ -1,5 +1,6 @@
 -- A formula of 00 to 04 and 10 to 1F reads current bits alone: the states in which it holds over all 2^n are the current states of the
 -- pairs in which it holds, and the bytes of valid are such a formula. Assumes nothing.
+use Rattle.std.specs.Prelude.{Some, None}
 use mathlib.Core.Path.{◌≡◌, refl, sym, ap, ap₂, ◌∙◌, subst, fun_ext}
 use mathlib.Core.Bool.{Bool, true, false, not, ◌&&◌, ◌||◌, cond}
 use mathlib.Core.List.{List}
@@ -15,7 +16,6 @@ use Rattle.tokens.specs.Tokens.{grammar_of}
 use Rattle.tokens.specs.declared.Kind.TheVariants.{Valid}
 use Rattle.tokens.specs.declared.Grammar.{Grammar}
 use Rattle.tokens.specs.declared.Grammar.TheVariants.{Bits}
-use Rattle.tokens.specs.declared.Reading.TheVariants.{Is as Reads, Unknown}
 use Rattle.tokens.proofs.Table.{both_true}
 use Rattle.formula.specs.Parse.{Got, fails, got, is_formula, form_of, formula_of}
 use Rattle.formula.proofs.Bytes.{takes}
@@ -123,10 +123,10 @@ taken-bits n (until true t f g) e = never-part (ltb t 8) (takes n Bits f && take
 taken-bits n (until false t f g) e = never-part (ltb t 8) (takes n Bits f && takes n Bits g) false e
 
 -- the one grammar of valid
-only-bits : (v : ℕ) (g : Grammar) → grammar_of Valid v ≡ Reads g → g ≡ Bits
+only-bits : (v : ℕ) (g : Grammar) → grammar_of Valid v ≡ Some g → g ≡ Bits
 only-bits v g e = go (eqb v 1) (eqb v 2) e
   where
-    go : (a c : Bool) → cond a (Reads Bits) (cond c Unknown Unknown) ≡ Reads g → g ≡ Bits
+    go : (a c : Bool) → cond a (Some Bits) (cond c None None) ≡ Some g → g ≡ Bits
     go true c z = let q : Bits ≡ g = cc in sym q
     go false true z = let q : ◌≡◌ {A = ℕ} 0 1 = cc in absurd (subst (λ (x : ℕ). T (eqb x 0)) q tt)
     go false false z = let q : ◌≡◌ {A = ℕ} 0 1 = cc in absurd (subst (λ (x : ℕ). T (eqb x 0)) q tt)

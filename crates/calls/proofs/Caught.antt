@@ -5,6 +5,7 @@ use mathlib.Core.List.{List}
 use Prim.Native.Nat.{ℕ, zero, suc, ◌*◌, ◌≤◌}
 use native.Mathlib.Omega.{arith}
 use lib.ListN.{length, get_or}
+use Rattle.std.specs.Prelude.{Ok}
 use Rattle.diagram.specs.Need.{need}
 use Rattle.diagram.specs.Reach.{Reach}
 use Rattle.layout.specs.Places.{BITS, words_for}
@@ -17,7 +18,6 @@ use Rattle.book.specs.Leaves.{plain}
 use Rattle.contract.specs.Seen.{seen, SoundWords}
 use Rattle.contract.specs.Posts.{FreshPost, CallPost, AskPost}
 use Rattle.calls.specs.Fresh.{FreshWords}
-use Rattle.calls.specs.declared.Started.TheVariants.{Ready}
 
 -- 3 BEFORE 2: on words that are no sound table every call and question gives 2, whatever its numbers are
 pub call-two-first : (c : Call) (old new : List ℕ) (y : Reply) → (SoundWords old → ⊥) → CallPost c old new y → (y.number ≡ 2) × (new ≡ old)
@@ -44,5 +44,6 @@ fresh-answered n N count old new p = go (fresh_number n N (length old) count) re
     go (suc k) e = let z : ◌≡◌ {A = ℕ} 0 (suc k) = (p.refuses k e).0.0 in absurd (omega arith)
 
 -- FRESH WRITES WORD 256 + 12 × N, or any later one
-pub fresh-beyond : (n N : ℕ) (old new : List ℕ) → FreshWords n N old new Ready → (k : ℕ) → words_for N ≤ k → get_or new k 0 ≡ get_or old k 0
+pub fresh-beyond : (n N : ℕ) (old new : List ℕ) → FreshWords n N old new (Ok tt) → (k : ℕ) → words_for N ≤ k
+    → get_or new k 0 ≡ get_or old k 0
 fresh-beyond n N old new w = same-beyond N new old (ap (λ (v : View). v.beyond) w)

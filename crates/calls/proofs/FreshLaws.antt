@@ -6,11 +6,13 @@ use Prim.Native.Nat.{ℕ, ◌+◌, ◌*◌}
 use native.Mathlib.Omega.{arith}
 use lib.Dec.{T, leb, le→leb, leb→le}
 use lib.ListN.{length}
+use Rattle.std.specs.Prelude.{Result, Ok, Err}
 use Rattle.accounts.specs.Terms.{lent}
 use Rattle.mucalculus.proofs.Sets.{and_in, and_out, true_of, false_of}
 use Rattle.diagram.proofs.Canon.{not-true}
 use Rattle.layout.specs.Places.{ROWS, FIRST_REGISTER, FIRST_RELATION}
 use Rattle.layout.specs.View.{View, view}
+use Rattle.layout.specs.declared.Refusal.{Refusal}
 use Rattle.layout.proofs.Same.{view-same}
 use Rattle.rows.specs.Used.{Sizes}
 use Rattle.rows.specs.Sound.{Sound, table_of}
@@ -20,14 +22,12 @@ use Rattle.book.specs.Book.{fresh_fits, fresh_number}
 use Rattle.book.specs.Leaves.{Empty, plain}
 use Rattle.contract.specs.Seen.{arrow_in, seen_in}
 use Rattle.contract.specs.Posts.{FreshPost}
-use Rattle.calls.specs.declared.Started.{Started}
-use Rattle.calls.specs.declared.Started.TheVariants.{Ready, Refused}
 use Rattle.calls.specs.Fresh.{FreshWords}
 
 -- one list of words
-pub fresh-words-one : (n N : ℕ) (old v w : List ℕ) (x : Started) → FreshWords n N old v x → FreshWords n N old w x → v ≡ w
-fresh-words-one n N old v w Ready p q = view-same N v w (p ∙ sym q)
-fresh-words-one n N old v w (Refused r) p q = p ∙ sym q
+pub fresh-words-one : (n N : ℕ) (old v w : List ℕ) (x : Result (Unit {0}) Refusal) → FreshWords n N old v x → FreshWords n N old w x → v ≡ w
+fresh-words-one n N old v w (Ok _) p q = view-same N v w (p ∙ sym q)
+fresh-words-one n N old v w (Err _) p q = p ∙ sym q
 
 -- what a test `!f(..)` says of the Boolean that f tells
 pub test_fails : {r t : Bool} → not r ≡ true → r ≡ t → t ≡ false

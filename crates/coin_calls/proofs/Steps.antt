@@ -1,20 +1,18 @@
 -- Laws of what specs/Steps.antt defines. Assumes nothing.
 use mathlib.Core.Path.{◌≡◌, refl, sym, ap, ◌∙◌, subst}
-use mathlib.Core.Logic.{◌⊎◌, inl, inr, by_cases}
 use mathlib.Core.Bool.{Bool, true, false}
 use mathlib.Core.List.{List}
-use Prim.Native.Nat.{ℕ, ◌+◌, ◌-◌, ◌^◌, ◌≤◌, ◌<◌}
-use native.Mathlib.Decide.{dec_lt}
+use Prim.Native.Nat.{ℕ, ◌-◌, ◌^◌, ◌≤◌, ◌<◌}
 use native.Mathlib.Omega.{arith}
 use lib.Dec.{T}
 use Rattle.mucalculus.proofs.Sets.{and_in, and_out, true_of}
 use Rattle.layout.specs.View.{View}
 use Rattle.seek.specs.Walk.{HoldsPre, holds_at}
 use Rattle.coins.specs.Cost.{step_cost}
-use Rattle.coin_search.specs.Words.{mark_of, state_at}
+use Rattle.coin_search.specs.Words.{mark_of}
 use Rattle.coin_search.specs.Hall.{root_at, filled_at, Hall}
-use Rattle.coin_search.proofs.Hall.{filled-used, filled_in, not-filled, filled-below}
-use Rattle.coin_calls.specs.Steps.{ExactStep, IsExact, RelationTo, Ahead}
+use Rattle.coin_search.proofs.Hall.{filled-used, filled_in, not-filled}
+use Rattle.coin_calls.specs.Steps.{ExactStep, IsExact}
 
 -- ---- one relation
 
@@ -64,51 +62,3 @@ module _ {W : View} {n : ℕ} {prices w : List ℕ} (h : Hall W n prices w) (s t
 -- none below r is one
 abbrev pub Passed : View → ℕ → List ℕ → List ℕ → ℕ → ℕ → ℕ → Type 0
 Passed W n prices w s t r = (q : ℕ) → q < r → ExactStep W n prices w s q t → ⊥
-
-pub passed_start : {W : View} {n : ℕ} {prices w : List ℕ} {s t : ℕ} → Passed W n prices w s t 0
-passed_start q l = absurd (omega arith)
-
-module _ {W : View} {n : ℕ} {prices w : List ℕ} {s t r : ℕ} where
-  pub relation-found : {b : Bool} → r < 8 → IsExact W n prices w s t r b → b ≡ true → RelationTo W n prices w s t r
-  relation-found l x e = record { found = λ _. x.yes e; none = λ q. absurd (omega arith) }
-
-  module _ (p : Passed W n prices w s t r) where
-    pub passed-next : {b : Bool} → IsExact W n prices w s t r b → b ≡ false → Passed W n prices w s t (r + 1)
-    passed-next x e q l y = go (by_last q l)
-      where
-        by_last : (q : ℕ) → q < r + 1 → (q < r) ⊎ (q ≡ r)
-        by_last q l = by_cases (dec_lt q r) (λ h. inl h) (λ h. inr (omega arith))
-
-        go : (q < r) ⊎ (q ≡ r) → ⊥
-        go (inl h) = p q h y
-        go (inr h) = x.no e (subst (λ (k : ℕ). ExactStep W n prices w s k t) h y)
-
-    pub passed-all : 8 ≤ r → RelationTo W n prices w s t 8
-    passed-all l = record {
-      found = λ q. absurd (q refl);
-      none = λ _ q y.
-          let k = filled-below W.header q (filled-used W q s t y.leads) in
-          p q (omega arith) y;
-    }
-
--- ---- the order
-
-module _ {W : View} {n : ℕ} {prices w : List ℕ} {s i : ℕ} (l : 0 < i) (a : Ahead W n prices w s i) where
-  -- what stands at the place before is none: it stands before that
-  ahead_less : ((q : ℕ) → ExactStep W n prices w s q (state_at w (i - 1)) → ⊥) → Ahead W n prices w s (i - 1)
-  ahead_less d = by_cases (dec_lt a.place (i - 1))
-      (λ h. record { place = a.place; relation = a.relation; before = h; step = a.step })
-      (λ h. let b = a.before in
-      let e : a.place ≡ i - 1 = omega arith in
-      absurd (d a.relation (subst (λ (k : ℕ). ExactStep W n prices w s a.relation (state_at w k)) e a.step)))
-
-  -- no relation leads there
-  pub ahead_none : {t r : ℕ} → t ≡ state_at w (i - 1) → RelationTo W n prices w s t r → r ≡ 8 → Ahead W n prices w s (i - 1)
-  ahead_none e x z = ahead_less (λ q y. x.none z q (subst (ExactStep W n prices w s q) (sym e) y))
-
-  -- it is no state
-  pub ahead_out : {t k : ℕ} → t ≡ state_at w (i - 1) → k ≡ 2 ^ n → k ≤ t → Ahead W n prices w s (i - 1)
-  ahead_out e f h = ahead_less (λ q y. let b = y.below in omega arith)
-
-pub ahead_not : {W : View} {n : ℕ} {prices w : List ℕ} {s i : ℕ} → Ahead W n prices w s i → i ≤ 0 → ⊥
-ahead_not a l = let b = a.before in omega arith

@@ -8,7 +8,6 @@ use native.Mathlib.Decide.{dec_lt}
 use native.Mathlib.Omega.{arith}
 use lib.Dec.{T, ltb, lt→ltb}
 use lib.ListN.{length, set}
-use lib.Pow.{pow_mono}
 use Rattle.mucalculus.proofs.Sets.{and_in}
 use Rattle.layout.specs.View.{View}
 use Rattle.paths.specs.Runs.{written}
@@ -16,8 +15,7 @@ use Rattle.coins.specs.Runs.{Transitions, PricedStep, price_of, mixed_into, stat
 use Rattle.coins.specs.Cost.{CREDIT, step_cost, cost}
 use Rattle.coins.specs.Marks.{Marks, Backed, Standing}
 use Rattle.coin_search.specs.Words.{mark_of, state_at, marks_of}
-use Rattle.coin_search.specs.Hall.{leads_at, Hall}
-use Rattle.coin_search.proofs.Hall.{filled-used, filled-below}
+use Rattle.coin_search.specs.Hall.{leads_at}
 use Rattle.coin_calls.specs.Steps.{ExactStep, Ahead}
 use Rattle.coin_calls.specs.Write.{WriteRunPre, RunWritten}
 
@@ -88,9 +86,6 @@ pub record Writing (W : View) (n : ℕ) (prices w states states' relations relat
   pub left : (mark_of w s - 1) % CREDIT + at ≡ steps
 
 module _ {W : View} {n : ℕ} {prices w st rel : List ℕ} {f steps : ℕ} (a : WriteRunPre W n prices w st rel f steps) where
-  pub few-states : (s : ℕ) → s < 2 ^ n → s < 65_536
-  few-states s l = let p : 2 ^ n ≤ 2 ^ 16 = pow_mono {i = n} {j = 16} a.hall.small in omega arith
-
   -- the order ends before the last place
   pub order-ends : {i : ℕ} → i ≡ 2 ^ n → i < a.count → ⊥
   order-ends e l = let c = a.standing.order.counted in omega arith
@@ -148,9 +143,6 @@ module _ {W : View} {n : ℕ} {prices w st rel : List ℕ} {f steps : ℕ} (a : 
         go b = place b (a.standing.order.placed b.state b.below b.marked)
 
     module _ {r t : ℕ} (e : ExactStep W n prices w s r t) where
-      pub relation-small : r < 8
-      relation-small = filled-below W.header r (filled-used W r s t e.leads)
-
       abbrev step : PricedStep
       step = record { relation = r; state = t }
 

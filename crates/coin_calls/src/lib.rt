@@ -70,12 +70,10 @@ fn relation_to(
         × (HEADER ≤ length words.now) }
     ensures { RelationTo (view rows words.now) bits prices.now work.now s t result }
 {
-    let mut r = 0;
-    while r < Table::RELATIONS {
+    for r in 0..Table::RELATIONS {
         if is_exact(words, rows, bits, prices, work, s, t, r) {
             return r;
         }
-        r += 1;
     }
     Table::RELATIONS
 }
@@ -96,9 +94,7 @@ fn step_below(
         result.state result.place }
 {
     let states = 1u32 << bits;
-    let mut i = from;
-    while i > 0 {
-        i -= 1;
+    for i in (0..from).rev() {
         let t = state_at(work, i);
         if t < states {
             let r = relation_to(words, rows, bits, prices, work, s, t);
@@ -138,14 +134,12 @@ fn write_run(
     states[0] = first as u16;
     let mut s = first;
     let mut i = 1u32 << bits;
-    let mut at = 0;
-    while at < steps as usize {
+    for at in 0..steps as usize {
         let step = step_below(words, rows, bits, prices, work, s, i);
         i = step.place;
         relations[at] = step.relation as u8;
-        at += 1;
         s = step.state;
-        states[at] = s as u16;
+        states[at + 1] = s as u16;
     }
 }
 
@@ -159,7 +153,7 @@ fn pay(
     states: &mut [u16],
     relations: &mut [u8],
     first: u32,
-) -> Fare
+) -> Result<Fare, Refusal>
     requires { PayPre (view rows words.now) bits prices.now work.now first × (HEADER ≤ length words.now) }
     ensures { PayPost (view rows words.now) bits prices.now work.now states.old
         states.new relations.old relations.new first (fare_reply result) }
@@ -168,19 +162,19 @@ fn pay(
     let total = (cost / Work::CREDIT) as u32;
     let steps = (cost % Work::CREDIT) as u32;
     if states.len() <= steps as usize {
-        return Fare::Refused(Refusal::Short);
+        return Err(Refusal::Short);
     }
     if relations.len() < steps as usize {
-        return Fare::Refused(Refusal::Short);
+        return Err(Refusal::Short);
     }
     write_run(
         words, rows, bits, prices, work, states, relations, first, steps,
     );
-    Fare::Paid {
+    Ok(Fare {
         total: total,
         charge: charge(total),
         states: steps + 1,
-    }
+    })
 }
 
 // Searches for a cheapest run from arrow a's set into arrow b's and writes it; 10 where there is none, 11 where a list is too short.
@@ -194,14 +188,14 @@ fn between(
     relations: &mut [u8],
     a: u32,
     b: u32,
-) -> Fare
+) -> Result<Fare, Refusal>
     requires { SearchPre (view rows words.now) bits prices.now work.old a b × (HEADER ≤ length words.now) }
     ensures { BetweenPost (view rows words.now) bits prices.now work.old work.new
         states.old states.new relations.old relations.new a b (fare_reply result) }
 {
     let first = search(words, rows, bits, prices, work, a, b);
     if first == Work::NO_STATE {
-        return Fare::Refused(Refusal::NoRun);
+        return Err(Refusal::NoRun);
     }
     pay(words, rows, bits, prices, work, states, relations, first)
 }
@@ -218,35 +212,35 @@ pub fn cheapest(
     relations: &mut [u8],
     a: u32,
     b: u32,
-) -> Fare
+) -> Result<Fare, Refusal>
     ensures { FarePost a b words.now prices.now work.old work.new states.old
         states.new relations.old relations.new (fare_reply result) }
 {
     if prices.len() != Table::RELATIONS as usize {
-        return Fare::Refused(Refusal::Sizes);
+        return Err(Refusal::Sizes);
     }
     if !sound(words) {
-        return Fare::Refused(Refusal::Unsound);
+        return Err(Refusal::Unsound);
     }
     let rows = header_word(words, Table::ROWS);
     let bits = header_word(words, Table::BITS);
     let all = 1usize << bits;
     if work.len() < all {
-        return Fare::Refused(Refusal::Sizes);
+        return Err(Refusal::Sizes);
     }
     if a >= Table::REGISTERS {
-        return Fare::Refused(Refusal::Range);
+        return Err(Refusal::Range);
     }
     if b >= Table::REGISTERS {
-        return Fare::Refused(Refusal::Range);
+        return Err(Refusal::Range);
     }
     let x = header_word(words, Table::FIRST_REGISTER + (a as usize));
     let y = header_word(words, Table::FIRST_REGISTER + (b as usize));
     if x == 0 {
-        return Fare::Refused(Refusal::Empty);
+        return Err(Refusal::Empty);
     }
     if y == 0 {
-        return Fare::Refused(Refusal::Empty);
+        return Err(Refusal::Empty);
     }
     between(
         words,

@@ -43,6 +43,7 @@ impl Notes {
 }
 
 // The numbers below 64 whose bit k is 1.
+// For the first classes the masks of soundness::high_cells, which is private to a crate that this one does not stand on.
 fn column(k: u32) -> u64
     ensures { result ≡ column_of k }
 {

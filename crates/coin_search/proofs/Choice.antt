@@ -36,12 +36,6 @@ module _ {H : ℕ → ℕ} {prices w : List ℕ} {r done count : ℕ} where
   }
 
 module _ {H : ℕ → ℕ} {prices w done : List ℕ} {count : ℕ} where
-  pub best_start : Best H prices w done count 0 8
-  best_start = record { none = λ _ q l. absurd (omega arith); some = λ n. absurd (n refl) }
-
-  pub best_ends : {r best : ℕ} → r ≤ 8 → 8 ≤ r → Best H prices w done count r best → Best H prices w done count 8 best
-  best_ends {r} {best} l h b = let e : r ≡ 8 = omega arith in subst (λ (x : ℕ). Best H prices w done count x best) e b
-
   module _ {r best m : ℕ} (l : r < 8) (b : Best H prices w done count r best) (x : NextMark H prices w r (get_or done r 0) count m) where
     -- relation r has no more
     pub best_skip : m ≡ 0 → Best H prices w done count (r + 1) best

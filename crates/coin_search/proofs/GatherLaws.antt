@@ -38,9 +38,6 @@ module _ (w : List ℕ) (s m j : ℕ) {x : ℕ} (lj : j < 64) (e : x ≡ mark_of
 
 -- ---- the loop of `goals_of`
 
-pub gathered_none : (low : ℕ) (w : List ℕ) (q m : ℕ) → Gathered low w q m 0 0
-gathered_none low w q m = record { from = λ i b. absurd (true≢false (sym b ∙ no-bit i)); has = λ i l. absurd (omega arith) }
-
 module _ {n low : ℕ} {w : List ℕ} {q : ℕ} (a : GatherPre n low w q) where
   -- how many there are
   pub upper_is : 1 * 2 ^ (n - low) % 4_294_967_296 ≡ 2 ^ (n - low)
@@ -87,9 +84,6 @@ module _ {n low : ℕ} {w : List ℕ} {q : ℕ} (a : GatherPre n low w q) where
         from i false e y =
             let (c, d) = b.from i (ap (λ (z : Bool). z || bit i r) (sym e) ∙ y) in
             (omega arith, ap (λ (z : ℕ). mark_of w (q + z * 2 ^ low)) c ∙ ap (mark_of w) (sym goal-is) ∙ d)
-
-  pub gathered_end : {m j k goals : ℕ} → Gathered low w q m j goals → j ≡ k → Gathered low w q m k goals
-  gathered_end {m} {j} {k} {goals} g e = subst (λ (y : ℕ). Gathered low w q m y goals) e g
 
   -- ---- the returns of `gather`
 

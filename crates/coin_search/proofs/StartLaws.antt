@@ -1,16 +1,14 @@
 -- Laws of what specs/Start.antt defines. Assumes nothing.
-use mathlib.Core.Path.{◌≡◌, refl, sym, ap, ◌∙◌, subst}
+use mathlib.Core.Path.{◌≡◌, sym, ap, ◌∙◌, subst}
 use mathlib.Core.Logic.{inl, by_cases}
 use mathlib.Core.Bool.{Bool, true, false, true≢false}
 use mathlib.Core.List.{List}
-use Prim.Native.Nat.{ℕ, suc, ◌+◌, ◌/◌, ◌%◌, ◌^◌, ◌≤◌, ◌<◌}
-use native.Mathlib.Nat.{mod-lt}
+use Prim.Native.Nat.{ℕ, suc, ◌+◌, ◌^◌, ◌≤◌, ◌<◌}
 use native.Mathlib.Decide.{ℕ_discrete, dec_le}
 use native.Mathlib.Omega.{arith}
 use lib.Dec.{T}
-use lib.ListN.{length, get_or, set, length-set}
+use lib.ListN.{length}
 use lib.Pow.{pow_mono}
-use lib.Seq.{get_or-set_same, get_or-set_other}
 use Rattle.mucalculus.proofs.Sets.{true_of}
 use Rattle.layout.specs.View.{View}
 use Rattle.coins.proofs.Added.{room as order-room, added-listed}
@@ -18,36 +16,10 @@ use Rattle.coins.specs.Turns.{Grown}
 use Rattle.coins.proofs.Turns.{grown-one, Searching}
 use Rattle.coin_search.specs.Words.{mark_of, state_at, marks_of, AddPost}
 use Rattle.coin_search.specs.Hall.{filled_at, leads_at, in_set}
-use Rattle.coin_search.specs.Start.{Cleared, Started, Bare, FirstIn}
-
-pub cleared-none : (w : List ℕ) → Cleared w w 0
-cleared-none w = record { size = refl; zeros = λ i l. absurd (omega arith) }
-
-pub cleared_more : {w v : List ℕ} {k : ℕ} → Cleared w v k → k < length v → Cleared w (set v k 0) (k + 1)
-cleared_more {w} {v} {k} c l = record {
-  size = length-set v k 0 ∙ c.size;
-  zeros = λ i h. by_cases (ℕ_discrete i k) (λ q. ap (λ (x : ℕ). get_or (set v k 0) x 0) q ∙ get_or-set_same v k 0 0 l)
-      (λ n. get_or-set_other v k i 0 0 n ∙ c.zeros i (omega arith));
-}
+use Rattle.coin_search.specs.Start.{Started}
 
 pub few-states : (n : ℕ) → n ≤ 16 → 2 ^ n ≤ 65_536
 few-states n l = pow_mono {i = n} {j = 16} l
-
-pub started_none : {W : View} {n : ℕ} {w : List ℕ} (b : ℕ) → Bare n w → Started W n w b 0 0
-started_none {W} {n} {w} b z = record {
-  small = z.small;
-  room = z.room;
-  order = record {
-    few = few-states n z.small;
-    counted = omega arith;
-    listed = λ i l. absurd (omega arith);
-    placed = λ s l y. let e : mark_of w s ≡ 0 = ap (λ (x : ℕ). x / 131_072) (z.zeros s l) in absurd (omega arith);
-    once = λ i j l h e. absurd (omega arith);
-  };
-  most = omega arith;
-  only = λ u l y. let e : mark_of w u ≡ 0 = ap (λ (x : ℕ). x / 131_072) (z.zeros u l) in absurd (omega arith);
-  complete = λ u l. absurd (omega arith);
-}
 
 module _ {W : View} {n : ℕ} {v : List ℕ} {b s count : ℕ} (d : Started W n v b s count) (l : s < 2 ^ n) where
   -- a state that is not in the set is passed over
@@ -115,23 +87,3 @@ searching_start {W} {n} {v} {b} {count} a prices done d zero-done = record {
   where
     one : (i : ℕ) → i < count → mark_of v (state_at v i) ≡ 1
     one i l = let (h, y) = d.order.listed i l in (d.only (state_at v i) h y).2
-
--- ---- the first state of a set in a part of the order
-
-pub first_found : {W : View} {w : List ℕ} {from to s i : ℕ} {r : Bool} (a : ℕ) → from ≤ i → i < to → s ≡ state_at w i → r ≡ in_set W a s
-    → r ≡ true → FirstIn W a w from to s
-first_found {w = w} {i = i} a l h e t y = record {
-  found = λ _. (i, l, h, sym e, sym t ∙ y);
-  none = λ z. absurd (let b : get_or w i 0 % 65_536 < 65_536 = mod-lt (get_or w i 0) (omega arith) in omega arith);
-}
-
-pub first-none : {W : View} {a : ℕ} {w : List ℕ} {from to i : ℕ} → ((j : ℕ) → from ≤ j → j < i → in_set W a (state_at w j) ≡ false) → to ≤ i
-    → FirstIn W a w from to 65_536
-first-none h l = record { found = λ n. absurd (n refl); none = λ _ j x y. h j x (omega arith) }
-
-pub pass_next : (W : View) (w : List ℕ) {from i s : ℕ} {r : Bool} (a : ℕ) → ((j : ℕ) → from ≤ j → j < i → in_set W a (state_at w j) ≡ false)
-    → s ≡ state_at w i → r ≡ in_set W a s → r ≡ false
-    → (j : ℕ) → from ≤ j → j < i + 1 → in_set W a (state_at w j) ≡ false
-pass_next W w {i = i} a h e t f j x y =
-    by_cases (ℕ_discrete j i) (λ q. ap (λ (k : ℕ). in_set W a (state_at w k)) q ∙ ap (in_set W a) (sym e) ∙ sym t ∙ f)
-    (λ n. h j x (omega arith))

@@ -193,6 +193,7 @@ fn add_all(
     let mut left = mask;
     let mut j = 0;
     let mut most = count;
+    // Not a for: it ends with the mask's last bit.
     while left != 0 {
         most = settle(words, work, notes, wave, s, j, left, most);
         left = left / 2;
@@ -369,12 +370,7 @@ fn clear(work: &mut [u64], states: u32)
     requires { (states ≤ 65_536) × (states ≤ length work.old) }
     ensures { Cleared work.old work.new states }
 {
-    let mut s = 0;
-    while s < states {
-        let at = s as usize;
-        work[at] = 0;
-        s += 1;
-    }
+    work[..states as usize].fill(0);
 }
 
 // Puts state s into the order where it is in the set of arrow b.
@@ -402,11 +398,9 @@ fn start(words: &[u32], rows: u32, bits: u32, work: &mut [u64], b: u32) -> u32
     ensures { Started (view rows words.now) bits work.new b (2 ^ bits) result }
 {
     let states = 1u32 << bits;
-    let mut s = 0;
     let mut count = 0;
-    while s < states {
+    for s in 0..states {
         count = add_goal(words, rows, bits, work, b, s, count);
-        s += 1;
     }
     count
 }
@@ -416,13 +410,11 @@ fn first_in(words: &[u32], rows: u32, a: u32, work: &[u64], from: u32, to: u32) 
     requires { HoldsPre (view rows words.now) a × (to ≤ length work.now) }
     ensures { FirstIn (view rows words.now) a work.now from to result }
 {
-    let mut i = from;
-    while i < to {
+    for i in from..to {
         let s = state_at(work, i);
         if holds(words, rows, a, s, 0) {
             return s;
         }
-        i += 1;
     }
     Work::NO_STATE
 }
@@ -480,11 +472,9 @@ fn choose(words: &[u32], prices: &[u8], work: &[u64], done: &[u32], count: u32) 
     ensures { Best (header_of words.now) prices.now work.now done.now count 8 result
         × (result ≤ 8) }
 {
-    let mut r = 0;
     let mut best = Table::RELATIONS;
-    while r < Table::RELATIONS {
+    for r in 0..Table::RELATIONS {
         best = better(words, prices, work, done, count, best, r);
-        r += 1;
     }
     best
 }
@@ -494,10 +484,7 @@ fn low_bits(bits: u32) -> u32
     requires { bits ≤ 16 }
     ensures { LowBits bits result }
 {
-    if bits > 6 {
-        return bits - 6;
-    }
-    0
+    bits.saturating_sub(6)
 }
 
 // Bit j where state s has the mark m.
@@ -518,10 +505,8 @@ fn goals_of(work: &[u64], bits: u32, low: u32, q: u32, m: u64) -> u64
 {
     let most = 1u32 << (bits - low);
     let mut goals = 0u64;
-    let mut j = 0;
-    while j < most {
-        goals = goals | goal_bit(work, q + (j << low), m, j);
-        j += 1;
+    for j in 0..most {
+        goals |= goal_bit(work, q + (j << low), m, j);
     }
     goals
 }

@@ -1,14 +1,14 @@
 -- THE CALL FOR A CHEAPEST RUN: when it is refused, and what it answers and leaves in the lists. Assumes nothing.
-use Rattle.std.specs.Prelude.{◌≡◌, ◌≢◌, ◌⊎◌, Bool, List, ℕ, suc, ◌^◌, ◌≤◌, ◌<◌, T, length, drop}
+use Rattle.std.specs.Prelude.{◌≡◌, ◌≢◌, ◌⊎◌, Bool, List, ℕ, suc, ◌^◌, ◌≤◌, ◌<◌, T, length, drop, Result, Ok, Err}
 use Rattle.std.proofs.Math.Option.{none, some}
 use Rattle.mucalculus.specs.Sets.{mem}
+use Rattle.layout.specs.declared.Refusal.{Refusal}
 use Rattle.layout.specs.Refusals.{keeps_all, refusal_number}
 use Rattle.book.specs.Book.{Book, registers}
 use Rattle.book.specs.BookOf.{book_of}
 use Rattle.contract.specs.Seen.{seen, SoundWords}
 use Rattle.paths.specs.Runs.{written}
 use Rattle.coins.specs.declared.Fare.{Fare}
-use Rattle.coins.specs.declared.Fare.TheVariants.{Paid, Refused}
 use Rattle.coins.specs.Runs.{Transitions, PricedStep, leads_in, is_mixed_run, total, states_along, relations_along, Cheapest, coins}
 
 -- "The call returns total, charge and number of states", and a refusal's number or 0
@@ -23,9 +23,9 @@ abbrev pub fare_refused : ℕ → FareReply
 fare_refused k = record { number = k; total = 0; charge = 0; states = 0 }
 
 -- the number and the values of each case of the code's answer
-abbrev pub fare_reply : Fare → FareReply
-fare_reply (Paid t c k) = record { number = 0; total = t; charge = c; states = k }
-fare_reply (Refused e) = fare_refused (refusal_number e)
+abbrev pub fare_reply : Result Fare Refusal → FareReply
+fare_reply (Ok f) = record { number = 0; total = f.total; charge = f.charge; states = f.states }
+fare_reply (Err e) = fare_refused (refusal_number e)
 
 -- a run of these steps: its total, "the total's coins", its states
 abbrev pub paid : List ℕ → List PricedStep → FareReply

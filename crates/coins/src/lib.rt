@@ -4,17 +4,12 @@
 ghost use Rattle.std.specs.Prelude.{◌≡◌};
 ghost use Rattle.coins.specs.Runs.{coins};
 
-use layout::Refusal;
-
 // What the call for a cheapest run answers: the credits of the run, the coins for them, and how many states it has.
 #[derive(Clone, Copy)]
-pub enum Fare {
-    Paid {
-        total: u32,
-        charge: u32,
-        states: u32,
-    },
-    Refused(Refusal),
+pub struct Fare {
+    pub total: u32,
+    pub charge: u32,
+    pub states: u32,
 }
 
 // The coins for a total of credits: one for every ten credits begun.

@@ -22,10 +22,8 @@ fn mark_list(words: &[u32], rows: u32, marks: &mut [u32], roots: &[u32])
     requires { LentPre (view rows words.now) (length marks.old) roots.now }
     ensures { MarksLent rows words.now marks.old marks.new roots.now }
 {
-    let mut k = 0;
-    while k < roots.len() {
-        mark(words, rows, marks, roots[k]);
-        k += 1;
+    for a in roots {
+        mark(words, rows, marks, *a);
     }
 }
 
@@ -51,10 +49,7 @@ fn mark_of(marks: &[u32], i: u32) -> u32
     requires { i < 32 * length marks.now }
     ensures { result ≡ mark_of marks.now i }
 {
-    if marked(marks, i) {
-        return 1;
-    }
-    0
+    u32::from(marked(marks, i))
 }
 
 // How many rows are marked.
@@ -64,10 +59,8 @@ pub fn count_marks(words: &[u32], rows: u32, marks: &[u32]) -> u32
 {
     let used = header_word(words, Table::USED);
     let mut found: u32 = 0;
-    let mut k = 0;
-    while k < used {
+    for k in 0..used {
         found += mark_of(marks, listed(words, rows, k));
-        k += 1;
     }
     found
 }
@@ -77,12 +70,10 @@ fn clear_heads(words: &mut [u32], rows: u32, total: u32)
     requires { HeadsPre rows words.old total }
     ensures { Headed (view rows words.old) (view rows words.new) }
 {
-    let mut k = 0;
-    while k < total {
+    for k in 0..total {
         let i = listed(words, rows, k);
         let b = row_bucket(words, rows, i);
         put_head(words, rows, b, 0);
-        k += 1;
     }
 }
 
@@ -91,13 +82,11 @@ fn regather(words: &mut [u32], rows: u32, total: u32, marks: &[u32])
     requires { GatherPre (view rows words.old) total (length marks.now) }
     ensures { RegatheredIn rows words.old words.new marks.now total }
 {
-    let mut k = 0;
-    while k < total {
+    for k in 0..total {
         let i = listed(words, rows, k);
         if marked(marks, i) {
             append(words, rows, i);
         }
-        k += 1;
     }
 }
 

@@ -1,9 +1,10 @@
--- From what a call's enum answers to its command's outcome. Assumes nothing.
+-- From what a call answers to its command's outcome. Assumes nothing.
 use mathlib.Core.Path.{◌≡◌, refl, sym, ap, ◌∙◌, subst}
 use mathlib.Core.Bool.{Bool}
 use mathlib.Core.List.{List}
 use Prim.Native.Nat.{ℕ, ◌≤◌}
 use native.Mathlib.Omega.{arith}
+use Rattle.std.specs.Prelude.{Result, Ok, Err}
 use Rattle.accounts.specs.declared.Terms.{Terms}
 use Rattle.book.specs.Book.{Call, relation, set, valid, clear, collect, count}
 use Rattle.book.specs.Program.{start, call, states, op_of}
@@ -13,10 +14,6 @@ use Rattle.contract.specs.Posts.{FreshPost, CallPost, AskPost}
 use Rattle.contract.specs.Seen.{SoundWords}
 use Rattle.contract.proofs.Checked.{call-unsound, ask-unsound}
 use Rattle.contract.proofs.Answered.{count-answered}
-use Rattle.calls.specs.declared.Started.{Started}
-use Rattle.calls.specs.declared.Started.TheVariants as started
-use Rattle.calls.specs.declared.Answer.{Answer}
-use Rattle.calls.specs.declared.Answer.TheVariants as answer
 use Rattle.calls.specs.Fresh.{FreshWords}
 use Rattle.calls.specs.Replies.{started_reply, answer_reply}
 use Rattle.layout.specs.Refusals.{refusal_number}
@@ -35,15 +32,15 @@ reply k v = record { number = k; rounds = 0; peak = 0; value = v }
 
 -- ---- fresh
 
-module _ {n N : ℕ} {old new : List ℕ} {v : Started} {x : Outcome} (p : FreshPost n N 1 old new (started_reply v))
+module _ {n N : ℕ} {old new : List ℕ} {v : Result (Unit {0}) Refusal} {x : Outcome} (p : FreshPost n N 1 old new (started_reply v))
     (w : FreshWords n N old new v) where
-  pub fresh-ready : v ≡ started.Ready → x ≡ plain_outcome 1 0 0 → Obeys (start n N) old new x
+  pub fresh-ready : v ≡ Ok tt → x ≡ plain_outcome 1 0 0 → Obeys (start n N) old new x
   fresh-ready e i = subst (Obeys (start n N) old new) (sym i) record {
     operation = refl;
-    posted = (subst (λ (s : Started). FreshPost n N 1 old new (started_reply s)) e p, (λ z. subst (FreshWords n N old new) e w), refl);
+    posted = (subst (FreshPost n N 1 old new) (ap started_reply e) p, (λ z. subst (FreshWords n N old new) e w), refl);
   }
 
-  pub fresh-refused : (f : Refusal) {k : ℕ} → v ≡ started.Refused f → 1 ≤ refusal_number f → k ≡ refusal_number f → x ≡ plain_outcome 1 k 0
+  pub fresh-refused : (f : Refusal) {k : ℕ} → v ≡ Err f → 1 ≤ refusal_number f → k ≡ refusal_number f → x ≡ plain_outcome 1 k 0
       → Obeys (start n N) old new x
   fresh-refused f {k} e l j i = subst (Obeys (start n N) old new) (sym i) record {
     operation = refl;
@@ -51,12 +48,6 @@ module _ {n N : ℕ} {old new : List ℕ} {v : Started} {x : Outcome} (p : Fresh
   }
 
 -- ---- relation, clear, collect
-
--- an answered relation, with its peak
-pub relation_done : (t : ℕ) (bs : List ℕ) {old new : List ℕ} {x : Outcome} (p : ℕ)
-    → CallPost (relation t bs) old new record { number = 0; rounds = 0; peak = p; value = 0 }
-    → x ≡ record { operation = 2; number = 0; node = 0; rounds = 0; value = 0; peak = p } → Obeys (call (relation t bs)) old new x
-relation_done t bs {old} {new} p d i = subst (Obeys (call (relation t bs)) old new) (sym i) record { operation = refl; posted = (d, refl) }
 
 -- the calls that return no node number
 abbrev Nodeless : Call → Type 0
@@ -101,9 +92,9 @@ module _ (acc : Terms) (r R : ℕ) (bs : List ℕ) {old new : List ℕ} {x : Out
       record { operation = refl; posted = (d, ((λ z. told v c e), λ z. absurd (omega arith))) }
     where
       -- the count is answered
-      told : (v : Answer) → AskPost (count r) new (answer_reply v) → k ≡ (answer_reply v).value → AskPost (count r) new (valued k)
-      told (answer.Value j) c e = subst (AskPost (count r) new) (ap valued (sym e)) c
-      told (answer.Refused f) c e = absurd (omega (arith, refusal-some f, count-answered old new acc r R bs _ d refl _ c))
+      told : (v : Result ℕ Refusal) → AskPost (count r) new (answer_reply v) → k ≡ (answer_reply v).value → AskPost (count r) new (valued k)
+      told (Ok j) c e = subst (AskPost (count r) new) (ap valued (sym e)) c
+      told (Err f) c e = absurd (omega (arith, refusal-some f, count-answered old new acc r R bs _ d refl _ c))
 
 -- a call's terms, as a function made them
 pub termed : {t u : Terms} (r R : ℕ) (bs old new : List ℕ) (y : Reply) → t ≡ u → CallPost (set t r R bs) old new y

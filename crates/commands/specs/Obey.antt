@@ -1,12 +1,11 @@
 -- What a record's command leaves and returns, by the contracts of its calls. Definitions alone.
-use Rattle.std.specs.Prelude.{◌≡◌, Bool, cond, List, ℕ, ◌≤◌}
+use Rattle.std.specs.Prelude.{◌≡◌, Bool, cond, List, ℕ, ◌≤◌, Result, Ok}
+use Rattle.layout.specs.declared.Refusal.{Refusal}
 use Rattle.book.specs.Book.{Call, relation, set, valid, clear, collect, effect, count}
 use Rattle.book.specs.Program.{Command, start, call, states, op_of}
 use Rattle.book.specs.Table.{Reply}
 use Rattle.book.specs.Leaves.{valued}
 use Rattle.contract.specs.Posts.{FreshPost, CallPost, AskPost}
-use Rattle.calls.specs.declared.Started.TheVariants.{Ready}
-use Rattle.calls.specs.declared.Answer.{Answer}
 use Rattle.calls.specs.Replies.{answer_reply}
 use Rattle.calls.specs.Fresh.{FreshWords}
 use Rattle.records.specs.declared.Found.{Found}
@@ -48,11 +47,11 @@ Beside collect new x = x.node ≡ 0
 
 -- the value of a count of register r, 0 where it is refused
 abbrev pub StatesIn : ℕ → List ℕ → ℕ → Type 0
-StatesIn r ws k = (v : Answer) × AskPost (count r) ws (answer_reply v) × (k ≡ (answer_reply v).value)
+StatesIn r ws k = (v : Result ℕ Refusal) × AskPost (count r) ws (answer_reply v) × (k ≡ (answer_reply v).value)
 
 -- a command under the contract of its call
 abbrev pub Posted : Command → List ℕ → List ℕ → Outcome → Type 0
-Posted (start n N) old new x = FreshPost n N 1 old new (shown_reply x) × (x.number ≡ 0 → FreshWords n N old new Ready) × (x.node ≡ 0)
+Posted (start n N) old new x = FreshPost n N 1 old new (shown_reply x) × (x.number ≡ 0 → FreshWords n N old new (Ok tt)) × (x.node ≡ 0)
 Posted (call c) old new x = CallPost c old new (reply_of c x) × Beside c new x
 Posted (states r) old new x = (new ≡ old) × AskPost (count r) old (shown_reply x) × (x.node ≡ 0)
 

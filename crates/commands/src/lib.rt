@@ -12,12 +12,9 @@ ghost use Rattle.commands.specs.Obey.{plain_outcome, Obeys, StatesIn, TakePost};
 ghost use Rattle.commands.specs.After.{sound_after};
 
 use accounts::lone_terms;
-use calls::{
-    Answer, Cleared, Collected, Started, clear_unchecked, collect_unchecked, count_unchecked, fresh,
-};
+use calls::{clear_unchecked, collect_unchecked, count_unchecked, fresh};
 use formula_calls::{relation_unchecked, set_unchecked};
-use formula_steps::{Loaded, Stored};
-use layout::{Refusal, refusal_number};
+use layout::Refusal;
 use records::{Command, Found, read_record};
 
 // What a record returned: its operation, a refusal's number or 0, set's node number, the rounds, the value that the program shows, and the
@@ -33,6 +30,7 @@ pub struct Outcome {
 }
 
 // What became of the bytes at hand: a record was obeyed, nothing is left, more bytes are needed, or no record can be read.
+// No Result of an Option, as records::Found: end and more are no failures, and none is handed on.
 #[derive(Clone, Copy)]
 pub enum Taken {
     Done { outcome: Outcome, size: usize },
@@ -78,8 +76,8 @@ fn obey_fresh(words: &mut [u32], n: u32, rows: u32) -> Outcome
     ensures { Obeys (program.start n rows) words.old words.new result }
 {
     match fresh(words, 1, n, rows) {
-        Started::Ready => plain(Operation::FRESH, 0, 0),
-        Started::Refused(x) => plain(Operation::FRESH, refusal_number(x), 0),
+        Ok(()) => plain(Operation::FRESH, 0, 0),
+        Err(x) => plain(Operation::FRESH, u32::from(x), 0),
     }
 }
 
@@ -89,15 +87,15 @@ fn obey_relation(words: &mut [u32], t: u32, formula: &[u8]) -> Outcome
     ensures { Obeys (program.call (book.relation t formula.now)) words.old words.new result }
 {
     match relation_unchecked(words, t, formula) {
-        Loaded::Done { peak: p } => Outcome {
+        Ok(loaded) => Outcome {
             operation: Operation::RELATION,
             number: 0,
             node: 0,
             rounds: 0,
             value: 0,
-            peak: p,
+            peak: loaded.peak,
         },
-        Loaded::Refused(x) => plain(Operation::RELATION, refusal_number(x), 0),
+        Err(x) => plain(Operation::RELATION, u32::from(x), 0),
     }
 }
 
@@ -106,10 +104,7 @@ fn states_in(words: &[u32], r: u32) -> u32
     requires { SoundWords words.now }
     ensures { StatesIn r words.now result }
 {
-    match count_unchecked(words, r) {
-        Answer::Value(k) => k,
-        Answer::Refused(_) => 0,
-    }
+    count_unchecked(words, r).unwrap_or(0)
 }
 
 // Set, on a sound table, and the states of what it stored.
@@ -118,22 +113,18 @@ fn obey_set(words: &mut [u32], r: u32, most: u32, formula: &[u8]) -> Outcome
     ensures { Obeys (program.call (book.set alone r most formula.now)) words.old words.new result }
 {
     match set_unchecked(words, lone_terms(), r, most, formula) {
-        Stored::Node {
-            number: a,
-            rounds: q,
-            peak: p,
-        } => {
+        Ok(stored) => {
             let states = states_in(words, r);
             Outcome {
                 operation: Operation::SET,
                 number: 0,
-                node: a,
-                rounds: q,
+                node: stored.number,
+                rounds: stored.rounds,
                 value: states,
-                peak: p,
+                peak: stored.peak,
             }
         }
-        Stored::Refused(x) => plain(Operation::SET, refusal_number(x), 0),
+        Err(x) => plain(Operation::SET, u32::from(x), 0),
     }
 }
 
@@ -143,8 +134,8 @@ fn obey_clear(words: &mut [u32], r: u32) -> Outcome
     ensures { Obeys (program.call (book.clear r)) words.old words.new result }
 {
     match clear_unchecked(words, r) {
-        Cleared::Done => plain(Operation::CLEAR, 0, 0),
-        Cleared::Refused(x) => plain(Operation::CLEAR, refusal_number(x), 0),
+        Ok(()) => plain(Operation::CLEAR, 0, 0),
+        Err(x) => plain(Operation::CLEAR, u32::from(x), 0),
     }
 }
 
@@ -154,8 +145,8 @@ fn obey_count(words: &mut [u32], r: u32) -> Outcome
     ensures { Obeys (program.states r) words.old words.new result }
 {
     match count_unchecked(words, r) {
-        Answer::Value(k) => plain(Operation::COUNT, 0, k),
-        Answer::Refused(x) => plain(Operation::COUNT, refusal_number(x), 0),
+        Ok(k) => plain(Operation::COUNT, 0, k),
+        Err(x) => plain(Operation::COUNT, u32::from(x), 0),
     }
 }
 
@@ -165,8 +156,8 @@ fn obey_collect(words: &mut [u32]) -> Outcome
     ensures { Obeys (program.call book.collect) words.old words.new result }
 {
     match collect_unchecked(words) {
-        Collected::Rows(k) => plain(Operation::COLLECT, 0, k),
-        Collected::Refused(x) => plain(Operation::COLLECT, refusal_number(x), 0),
+        Ok(k) => plain(Operation::COLLECT, 0, k),
+        Err(x) => plain(Operation::COLLECT, u32::from(x), 0),
     }
 }
 
@@ -174,7 +165,7 @@ fn obey_collect(words: &mut [u32]) -> Outcome
 fn unsound(operation: u32) -> Outcome
     ensures { result ≡ plain_outcome operation 2 0 }
 {
-    plain(operation, refusal_number(Refusal::Unsound), 0)
+    plain(operation, u32::from(Refusal::Unsound), 0)
 }
 
 // A command on words that are no sound table: fresh is obeyed, and every other one is refused with 2.

@@ -1,4 +1,5 @@
 -- AND with the constant 1 right after a step: its answer is that step's, in the same table, and it needs no more. Assumes nothing.
+use Rattle.std.specs.Prelude.{Result}
 use mathlib.Core.Path.{◌≡◌, refl, sym, ap, ap₂, ◌∙◌, subst, fun_ext}
 use mathlib.Core.Logic.{⊎_elim}
 use mathlib.Core.Bool.{Bool, true, false, ◌&&◌}
@@ -36,10 +37,11 @@ use Rattle.steps.specs.Steps.{operands_of, live_at, step_f, StepPre}
 use Rattle.steps.proofs.Steps.{live-arrows, live_same}
 use Rattle.steps.specs.declared.Step.{Step}
 use Rattle.steps.specs.declared.Step.TheVariants.{And}
+use Rattle.table.specs.declared.Full.{Full}
 use Rattle.counting.proofs.Sizes.{outside-none}
+use Rattle.counting.specs.Taken.{taken}
 use Rattle.counting.specs.Peak.{TakenPost}
 use Rattle.counting.specs.declared.Taken.{Taken}
-use Rattle.counting.specs.declared.Taken.TheVariants as taken
 
 -- fewer arrows need no more
 fewer : (m : ℕ) (rows : Rows) (xs ys : List ℕ) → Within xs ys → need m (map (den m rows) xs) ≤ need m (map (den m rows) ys)
@@ -52,7 +54,7 @@ counted_already : (q : Count) (k : ℕ) → k ≤ q.peak → q ≡ needing q k
 counted_already q k l = let m : q.peak ≡ max q.peak k = omega (arith, l) in ap (λ (p : ℕ). record { rounds = q.rounds; peak = p }) m
 
 module _ {m N limit : ℕ} {W X : View} {roots c : List ℕ}
-    {s : Step} {q1 : Count} {b v : ℕ} (q : Count) (p : TakenPost m N limit W X roots c s q (taken.At b q1))
+    {s : Step} {q1 : Count} {b v : ℕ} (q : Count) (p : TakenPost m N limit W X roots c s q (taken b q1))
     (n : StepPre m N limit X roots (And b v)) (e : v ≡ 1) where
   abbrev rows : Rows
   rows = rows_of X
@@ -115,7 +117,7 @@ module _ {m N limit : ℕ} {W X : View} {roots c : List ℕ}
       let l = need-before in
       omega (arith, f, o, z, l)
 
-  all : TakenPost m N limit X X roots c (And b v) q1 (taken.At b q1)
+  all : TakenPost m N limit X X roots c (And b v) q1 (taken b q1)
   all = (
     record {
       sound = n.sound;
@@ -141,7 +143,9 @@ module _ {m N limit : ℕ} {W X : View} {roots c : List ℕ}
           (λ t. ⊎_elim (λ i. subst (Arrow rows) (sym i) n.fits.1) (λ z. absurd (mem-nil z)) (mem-cases t)) (mem-cases h)
 
 -- the same after the step's answer as it is told
-pub and-all : {m N limit : ℕ} {W X : View} {roots c : List ℕ} {s : Step} {q1 : Count} {b v : ℕ} (q : Count) (o : Taken) → o ≡ taken.At b q1
+pub and-all : {m N limit : ℕ} {W X : View} {roots c : List ℕ} {s : Step} {q1 : Count} {b v : ℕ} (q : Count) (o : Result Taken Full)
+    → o ≡ taken b q1
     → TakenPost m N limit W X roots c s q o
-    → StepPre m N limit X roots (And b v) → v ≡ 1 → TakenPost m N limit X X roots c (And b v) q1 (taken.At b q1)
-and-all {m} {N} {limit} {W} {X} {roots} {c} {s} q o i p n e = all q (subst (λ (t : Taken). TakenPost m N limit W X roots c s q t) i p) n e
+    → StepPre m N limit X roots (And b v) → v ≡ 1 → TakenPost m N limit X X roots c (And b v) q1 (taken b q1)
+and-all {m} {N} {limit} {W} {X} {roots} {c} {s} q o i p n e = all q
+    (subst (λ (t : Result Taken Full). TakenPost m N limit W X roots c s q t) i p) n e

@@ -3,17 +3,16 @@ use mathlib.Core.Path.{◌≡◌, refl, sym, ap, ◌∙◌, subst}
 use mathlib.Core.Logic.{inl, inr, ⊎_elim, by_cases}
 use mathlib.Core.List.Memᴰ.{append_cases}
 use mathlib.Core.List.Memᴰ.{append_left}
-use mathlib.Core.List.{List, [], ◌∷◌, ◌++◌, Memᴰ as Mem}
+use mathlib.Core.List.{List, Memᴰ as Mem}
 use mathlib.Core.List.Memᴰ.{append_right}
 use Prim.Native.Nat.{ℕ, zero, suc, ◌+◌, ◌*◌, ◌/◌, ◌%◌, ◌^◌, ◌≤◌, ◌<◌}
-use native.Mathlib.Decide.{ℕ_discrete, dec_lt}
-use native.Mathlib.Numerals.{add-one}
+use native.Mathlib.Decide.{dec_lt}
 use native.Mathlib.Omega.{arith}
 use native.Mathlib.Nat.{zero-div}
 use borrow.Author.Tests.{eqb-true}
 use lib.ListN.{length, get_or, set, take, length-set, get_or-eq_default}
 use lib.Dec.{eqb}
-use lib.Seq.{take-suc, take-suc-set, take-length, length-take-le, take-set-le, take-take, get_or-set_same, get_or-set_other, get_or-take}
+use lib.Seq.{length-take-le, take-set-le, take-take, get_or-take}
 use Rattle.diagram.specs.Rows.{target, Arrow, Extends}
 use Rattle.diagram.proofs.Count.{pigeonhole}
 use Rattle.diagram.specs.Reach.{Reach}
@@ -113,18 +112,7 @@ counts-put {c = c} a k u o p = record {
   sizes = remembered_put c a k (let e = p.base.size in omega (arith, e)) u o p.sizes;
 }
 
-pub emptied-none : (c : List ℕ) → Emptied c c SIZES
-emptied-none c = record { beside = record { size = refl; first = refl }; zeros = λ j a b. absurd (omega arith) }
-
-pub emptied-more : {c d : List ℕ} {k : ℕ} → SIZES ≤ k → k < length c → Emptied c d k → Emptied c (set d k 0) (k + 1)
-emptied-more {c} {d} {k} l h p = record {
-  beside = beside_trans p.beside (beside-set d k 0 l);
-  zeros = λ j a b. by_cases (ℕ_discrete j k)
-      (λ e. rw e (get_or-set_same d k 0 0 (let z = p.beside.size in omega (arith, z))))
-      (λ n. get_or-set_other d k j 0 0 n ∙ p.zeros j a (omega arith));
-}
-
--- all of them: what is left of the base, and nothing beside
+-- all sizes are forgotten: what is left of the base, and nothing beside
 pub emptied-counts : {W : View} {c d : List ℕ} → Emptied c d COUNT_WORDS → BaseOf W c → CountsOf W d
 emptied-counts {W} {c} {d} z p =
     let b = base-beside z.beside p in
@@ -144,26 +132,6 @@ all_room s = record { enough = s.good.sizes.N-max; most = omega arith }
 
 pub room-base : {W : View} {k : ℕ} → Sound W → MarkRoom W.rows k → Base W k
 room-base s r = record { words = s.good.sizes.room; rows = s.good.rows; room = r.enough }
-
--- copying the marks: the first k words
-pub record Copied (c m : List ℕ) (n k : ℕ) : Type 0 where
-  pub size : length m ≡ n
-  pub same : take k m ≡ take k c
-
-pub copied_none : {c m : List ℕ} → Copied c m (length m) 0
-copied_none = record { size = refl; same = refl }
-
-pub copied_more : {c m : List ℕ} {n k : ℕ} → k < n → n ≤ MARK_WORDS → length c ≡ COUNT_WORDS → Copied c m n k
-    → Copied c (set m k (get_or c k 0)) n (k + 1)
-copied_more {c} {m} {n} {k} l h e p = record {
-  size = length-set m k (get_or c k 0) ∙ p.size;
-  same = rw (add-one k)
-      (take-suc-set m k (get_or c k 0) (omega (arith, p.size)) ∙ ap (λ (xs : List ℕ). xs ++ get_or c k 0 ∷ []) p.same
-      ∙ sym (take-suc c k 0 (omega arith)));
-}
-
-pub copied_all : {c m : List ℕ} {n k : ℕ} → k ≡ n → Copied c m n k → m ≡ take n c
-copied_all {c} {m} {n} {k} e p = sym (take-length m) ∙ ap (λ (x : ℕ). take x m) (p.size ∙ sym e) ∙ p.same ∙ ap (λ (x : ℕ). take x c) e
 
 -- marks of exactly the rows that registers and relations reach
 pub record BaseMarked (W : View) (m : List ℕ) : Type 0 where

@@ -24,8 +24,9 @@ use Rattle.layout.specs.View.{View}
 use Rattle.rows.specs.Used.{rows_of}
 use Rattle.rows.specs.Filled.{filled}
 use Rattle.table.proofs.Count.{count-used}
-use Rattle.table.specs.declared.Made.{Made}
-use Rattle.table.specs.declared.Made.TheVariants as made
+use Rattle.std.specs.Prelude.{Result, Ok, Err}
+use Rattle.table.specs.declared.Full.{Full}
+use Rattle.table.specs.Full.{rows_out}
 use Rattle.collect.specs.Lent.{live}
 use Rattle.collect.specs.Answers.{FreePre}
 use Rattle.operations.specs.Work.{Worked}
@@ -35,13 +36,13 @@ use Rattle.steps.specs.Clean.{CleanPre}
 use Rattle.steps.proofs.CleanLaws.{lent, to-live, to-lent}
 use Rattle.steps.proofs.Again.{stepped-few}
 use Rattle.steps.specs.declared.Step.{Step}
+use Rattle.counting.specs.Taken.{taken, ran_out}
 use Rattle.counting.specs.News.{ListNew}
 use Rattle.counting.proofs.News.{list-more}
 use Rattle.counting.specs.Counts.{COUNT_WORDS, CountsOf, Emptied}
 use Rattle.counting.proofs.CountsLaws.{BaseMarked, reaches_le, base_keeps, counts_extends, emptied-counts, live-marked}
 use Rattle.counting.specs.Bound.{WithinPost}
 use Rattle.counting.proofs.Bound.{need-fewer}
-use Rattle.counting.specs.declared.Taken.TheVariants as taken
 use Rattle.counting.specs.Peak.{TakenPost, NotePost, StepCounted}
 
 -- the count of what is live, as `count_live` makes it
@@ -91,24 +92,24 @@ module _ {W : View} {roots : List ℕ} {s : Step} {a : ℕ} (p : CleanPre W root
 
 module _ {m N limit : ℕ} {W X : View} {roots c : List ℕ} {s : Step} (p : StepPre m N limit W roots s) (k : CountsOf W c) where
   -- rows were only added
-  pub counted-few : {o : Made} {a u : ℕ} → o ≡ made.At a → Worked m N limit W X o (step_f m (rows_of W) s) → u ≡ X.header USED → u ≤ limit
-      → StepCounted m N limit W X roots c s (made.At a)
+  pub counted-few : {o : Result ℕ Full} {a u : ℕ} → o ≡ Ok a → Worked m N limit W X o (step_f m (rows_of W) s) → u ≡ X.header USED
+      → u ≤ limit → StepCounted m N limit W X roots c s (Ok a)
   counted-few e w q l = record { step = stepped-few p e w q l; counts = counts_extends p.sound w.frame w.post.kept k }
 
   -- rows were freed, and the sizes forgotten
-  pub counted-freed : {d : List ℕ} {o : Made} → Emptied c d COUNT_WORDS → Stepped m N limit W X roots s o
+  pub counted-freed : {d : List ℕ} {o : Result ℕ Full} → Emptied c d COUNT_WORDS → Stepped m N limit W X roots s o
       → StepCounted m N limit W X roots d s o
   counted-freed z t =
       let kept = keeps_within (λ a h. append_left (roots ++ operands_of s) h) t.post.kept in
       record { step = t; counts = emptied-counts z (base_keeps t.frame kept k.base) }
 
 -- the steps of `take`
-module _ {m N limit : ℕ} {W X : View} {roots c : List ℕ} {s : Step} {o : Made} (t : StepCounted m N limit W X roots c s o) where
-  pub taken-full : (q : Count) → o ≡ made.Full → TakenPost m N limit W X roots c s q taken.Full
+module _ {m N limit : ℕ} {W X : View} {roots c : List ℕ} {s : Step} {o : Result ℕ Full} (t : StepCounted m N limit W X roots c s o) where
+  pub taken-full : (q : Count) → o ≡ Err rows_out → TakenPost m N limit W X roots c s q ran_out
   taken-full q e = (rw e at t.step, t.counts, tt)
 
-  module _ {a : ℕ} (e : o ≡ made.At a) where
-    answered : Stepped m N limit W X roots s (made.At a)
+  module _ {a : ℕ} (e : o ≡ Ok a) where
+    answered : Stepped m N limit W X roots s (Ok a)
     answered = rw e at t.step
 
     pub note-pre : CleanPre X roots s a
@@ -120,7 +121,7 @@ module _ {m N limit : ℕ} {W X : View} {roots c : List ℕ} {s : Step} {o : Mad
     }
 
     pub taken_at : {d : List ℕ} (q : Count) {r : ℕ} → StepPre m N limit W roots s → NotePost X d roots s a q.peak r
-        → TakenPost m N limit W X roots d s q (taken.At a (record { rounds = q.rounds; peak = r }))
+        → TakenPost m N limit W X roots d s q (taken a (record { rounds = q.rounds; peak = r }))
     taken_at q {r} p n =
         let f = answered.frame in
         let em : m

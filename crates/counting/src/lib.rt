@@ -1,7 +1,7 @@
 // Counting rows: how many rows each step of an evaluation needs, for its peak.
 #![tactic(auto)]
 
-ghost use Rattle.std.specs.Prelude.{◌≡◌, true, false, ◌++◌, ◌≤◌, max, length, take};
+ghost use Rattle.std.specs.Prelude.{◌≡◌, true, false, ◌++◌, ◌≤◌, length, take};
 ghost use Rattle.layout.specs.View.{view};
 ghost use Rattle.layout.specs.Arrows.{is_row, row_of};
 ghost use Rattle.rows.specs.Used.{rows_of};
@@ -25,7 +25,7 @@ use collect::{count_marks, mark_filled};
 use layout::{Table, get, header_word, is_row, row_of};
 use rows::{Bitmap, marked, set_mark};
 use steps::{Step, operands_of, retry, settle, try_step};
-use table::Made;
+use table::Full;
 
 // What an evaluation counts rows with: marks of the rows that registers and relations reach, the base; how many these are; and sizes, which
 // are remembered: of an arrow, how many rows it reaches beside the base.
@@ -52,11 +52,11 @@ impl Few {
     pub const MARKS: usize = 128;
 }
 
-// What a step answers: the arrow of its result and the count with its need, or that the rows ran out.
+// What a step answers: the arrow of its result and the count with its need.
 #[derive(Clone, Copy)]
-pub enum Taken {
-    At { arrow: u32, count: Count },
-    Full,
+pub struct Taken {
+    pub arrow: u32,
+    pub count: Count,
 }
 
 // Counts the rows that registers and relations reach.
@@ -74,11 +74,7 @@ fn copy_marks(counts: &[u32], marks: &mut [u32])
     requires { (length counts.now ≡ COUNT_WORDS) × (length marks.old ≤ MARK_WORDS) }
     ensures { marks.new ≡ take (length marks.old) counts.now }
 {
-    let mut k = 0;
-    while k < marks.len() {
-        marks[k] = counts[k];
-        k += 1;
-    }
+    marks.copy_from_slice(&counts[..marks.len()]);
 }
 
 // Marks the rows that arrow a reaches, and counts those that were not marked.
@@ -86,16 +82,10 @@ fn mark_new(words: &[u32], rows: u32, marks: &mut [u32], a: u32) -> u32
     requires { MarkPre (view rows words.now) (length marks.old) a }
     ensures { MarksNew (rows_of (view rows words.now)) marks.old marks.new a result }
 {
-    if !is_row(a) {
-        return 0;
-    }
-    if marked(marks, row_of(a)) {
-        return 0;
-    }
-    new_row(words, rows, marks, a)
+    new_part(words, rows, marks, a)
 }
 
-// `mark_new` of an arrow of a row. It is apart, so that it is inlined in `new_row`: an arrow with nothing to mark costs no call.
+// The body of `mark_new`, also for an arrow of a row. Apart, so that it is inlined in `new_row`: one with nothing to mark costs no call.
 #[cycle(new_part_new_row)]
 fn new_part(words: &[u32], rows: u32, marks: &mut [u32], a: u32) -> u32
     requires { MarkPre (view rows words.now) (length marks.old) a }
@@ -112,6 +102,7 @@ fn new_part(words: &[u32], rows: u32, marks: &mut [u32], a: u32) -> u32
 
 // `mark_new` of an arrow to a row that is not marked.
 #[cycle(new_part_new_row)]
+#[inline(never)]
 fn new_row(words: &[u32], rows: u32, marks: &mut [u32], a: u32) -> u32
     requires { MarkPre (view rows words.now) (length marks.old) a × (is_row a ≡ true) × (is_on marks.old (row_of a) ≡ false) }
     ensures { MarksNew (rows_of (view rows words.now)) marks.old marks.new a result }
@@ -129,10 +120,8 @@ fn list_new(words: &[u32], rows: u32, marks: &mut [u32], roots: &[u32]) -> u32
     ensures { ListNew (rows_of (view rows words.now)) marks.old marks.new roots.now result }
 {
     let mut found = 0;
-    let mut k = 0;
-    while k < roots.len() {
-        found += mark_new(words, rows, marks, roots[k]);
-        k += 1;
+    for a in roots {
+        found += mark_new(words, rows, marks, *a);
     }
     found
 }
@@ -223,11 +212,7 @@ fn forget_sizes(counts: &mut [u32])
     requires { length counts.old ≡ COUNT_WORDS }
     ensures { Emptied counts.old counts.new COUNT_WORDS }
 {
-    let mut k = Counts::SIZES;
-    while k < Counts::WORDS {
-        counts[k] = 0;
-        k += 1;
-    }
+    counts[Counts::SIZES..].fill(0);
 }
 
 // How many rows, at most, arrow a reaches beside the base: its size, as it is remembered, or counted and remembered.
@@ -263,13 +248,11 @@ fn add_sizes(
     ensures { SumPost (view rows words.now) counts.new arrows.now sum most result }
 {
     let mut total = sum;
-    let mut k = 0;
-    while k < arrows.len() {
+    for a in arrows {
         if total > most as u64 {
             return total;
         }
-        total += size_of(words, rows, counts, arrows[k]) as u64;
-        k += 1;
+        total += size_of(words, rows, counts, *a) as u64;
     }
     total
 }
@@ -295,16 +278,6 @@ pub fn sizes_within(
     false
 }
 
-// The greater of two numbers.
-fn greater(a: u32, b: u32) -> u32
-    ensures { result ≡ max a b }
-{
-    if a < b {
-        return b;
-    }
-    a
-}
-
 // The peak with a step whose result is arrow a: the rows that it and all that is live need, where they are more than the peak before.
 fn note(
     words: &[u32],
@@ -326,7 +299,7 @@ fn note(
     if sizes_within(words, rows, counts, roots, &more, peak) {
         return peak;
     }
-    greater(peak, count_live(words, rows, counts, roots, &more))
+    peak.max(count_live(words, rows, counts, roots, &more))
 }
 
 // Takes a step: refused exactly where its result and all that is live need more than `limit` rows.
@@ -339,21 +312,21 @@ fn take_counted(
     limit: u32,
     roots: &[u32],
     step: Step,
-) -> Made
+) -> Result<u32, Full>
     requires { TakePre levels rows limit words.old counts.old roots.now step }
     ensures { StepCountedIn levels rows limit words.old words.new roots.now counts.new
         step result }
 {
     let made = try_step(words, rows, levels, limit, step);
     match made {
-        Made::At(a) => {
+        Ok(a) => {
             if header_word(words, Table::USED) <= limit {
-                return Made::At(a);
+                return Ok(a);
             }
             forget_sizes(counts);
-            settle(words, rows, limit, roots, step, Made::At(a))
+            settle(words, rows, limit, roots, step, Ok(a))
         }
-        Made::Full => {
+        Err(_) => {
             forget_sizes(counts);
             retry(words, rows, levels, limit, roots, step)
         }
@@ -370,20 +343,18 @@ pub fn take(
     roots: &[u32],
     step: Step,
     count: Count,
-) -> Taken
+) -> Result<Taken, Full>
     requires { TakePre levels rows limit words.old counts.old roots.now step }
     ensures { TakenIn levels rows limit words.old words.new roots.now counts.new
         step count result }
 {
-    let Made::At(a) = take_counted(words, counts, rows, levels, limit, roots, step) else {
-        return Taken::Full;
-    };
+    let a = take_counted(words, counts, rows, levels, limit, roots, step)?;
     let p = note(words, rows, counts, roots, step, a, count.peak);
-    Taken::At {
+    Ok(Taken {
         arrow: a,
         count: Count {
             rounds: count.rounds,
             peak: p,
         },
-    }
+    })
 }

@@ -19,10 +19,9 @@ use Rattle.diagram.specs.Post.{Denotes}
 use Rattle.diagram.proofs.Recur.{Divides}
 use Rattle.layout.specs.View.{View}
 use Rattle.rows.specs.Used.{rows_of}
-use Rattle.table.specs.Code.{FULL, made_of}
-use Rattle.table.proofs.CodeLaws.{code_at}
 use Rattle.table.specs.Make.{MakePre, MakePost}
-use Rattle.table.specs.declared.Made.{Made}
+use Rattle.std.specs.Prelude.{Result, Ok, Err}
+use Rattle.table.specs.declared.Full.{Full}
 use Rattle.operations.specs.Work.{Ready, Worked}
 use Rattle.operations.proofs.Work.{worked_there, worked_cong, low_stops, high_stops, row-pre, row_made, ready-next}
 use Rattle.cubes.specs.Cube.{literal, cube_from, cube_rest, cube_f, unless_arrow, Disjoint, CubePre}
@@ -143,42 +142,40 @@ module _ {m l : ℕ} {G : Fn} (g : Reads (suc l) m G) where
 divides : {m l : ℕ} {F F0 F1 : Fn} (rows : Rows) → l < m → Splits m l F F0 F1 → Divides m rows l F F0 (λ t. F1)
 divides rows lm s = record { shallow = lm; splits = s; stable = λ mid e v. refl }
 
-at-nothing : {m N limit : ℕ} {U : View} → Ready m N limit U → Worked m N limit U U (made_of 0) (λ v. false)
+at-nothing : {m N limit : ℕ} {U : View} → Ready m N limit U → Worked m N limit U U (Ok 0) (λ v. false)
 at-nothing {m} q = worked_there q (nothing-denotes m _)
 
-no-full : 0 ≢ FULL
-no-full e = absurd (omega (arith, e))
+-- the rows ran out before
+module _ {m N limit : ℕ} {W X : View} {l : ℕ} {G : Fn} (r : Ready m N limit W) (lm : l < m) (g : Reads (suc l) m G) where
+  cube-full : {e f : Full} → Worked m N limit W X (Err e) G → (o z : Bool) → (o ≡ true → z ≡ true → ⊥)
+      → Worked m N limit W X (Err f) (more l G o z)
+  cube-full w false false h = low_stops r (divides (rows_of W) lm (splits_plain g)) w
+  cube-full w false true h = low_stops r (divides (rows_of W) lm (splits_zero g)) w
+  cube-full w true false h = high_stops r (divides (rows_of W) lm (splits_one g)) (at-nothing r) w
+  cube-full w true true h = absurd (h refl refl)
 
 module _ {m N limit : ℕ} {W X : View} {l a : ℕ} {G : Fn} (r : Ready m N limit W) (lm : l < m) (g : Reads (suc l) m G)
-    (w : Worked m N limit W X (made_of a) G) where
-  -- the rows ran out before
-  pub cube-full : (o z : Bool) → (o ≡ true → z ≡ true → ⊥) → a ≡ FULL → Worked m N limit W X (made_of FULL) (more l G o z)
-  cube-full false false h e = low_stops r (divides (rows_of W) lm (splits_plain g)) e w
-  cube-full false true h e = low_stops r (divides (rows_of W) lm (splits_zero g)) e w
-  cube-full true false h e = high_stops r (divides (rows_of W) lm (splits_one g)) no-full (at-nothing r) e w
-  cube-full true true h e = absurd (h refl refl)
+    (w : Worked m N limit W X (Ok a) G) where
+  ready : Ready m N limit X
+  ready = ready-next r w
 
-  module _ (n : a ≢ FULL) where
-    ready : Ready m N limit X
-    ready = ready-next r w
+  again : Worked m N limit X X (Ok a) G
+  again = worked_there ready w.post.result
 
-    again : Worked m N limit X X (made_of a) G
-    again = worked_there ready (rw (code_at a n) at w).post.result
+  -- what the row asks
+  pub cube-asks : (o z : Bool) → (o ≡ true → z ≡ true → ⊥) → MakePre X limit l (unless_arrow o a) (unless_arrow z a)
+  cube-asks false false h = row-pre r (divides (rows_of W) lm (splits_plain g)) w again
+  cube-asks false true h = row-pre r (divides (rows_of W) lm (splits_zero g)) w (at-nothing ready)
+  cube-asks true false h = row-pre r (divides (rows_of W) lm (splits_one g)) (at-nothing r) w
+  cube-asks true true h = absurd (h refl refl)
 
-    -- what the row asks
-    pub cube-asks : (o z : Bool) → (o ≡ true → z ≡ true → ⊥) → MakePre X limit l (unless_arrow o a) (unless_arrow z a)
-    cube-asks false false h = row-pre r (divides (rows_of W) lm (splits_plain g)) n w n again
-    cube-asks false true h = row-pre r (divides (rows_of W) lm (splits_zero g)) n w no-full (at-nothing ready)
-    cube-asks true false h = row-pre r (divides (rows_of W) lm (splits_one g)) no-full (at-nothing r) n w
-    cube-asks true true h = absurd (h refl refl)
-
-    -- and what it leaves
-    pub cube-made : (o z : Bool) → (o ≡ true → z ≡ true → ⊥) → {Y : View} {t : Made}
-        → MakePost X Y limit l (unless_arrow o a) (unless_arrow z a) t → Worked m N limit W Y t (more l G o z)
-    cube-made false false h p = row_made r (divides (rows_of W) lm (splits_plain g)) n w n again p
-    cube-made false true h p = row_made r (divides (rows_of W) lm (splits_zero g)) n w no-full (at-nothing ready) p
-    cube-made true false h p = row_made r (divides (rows_of W) lm (splits_one g)) no-full (at-nothing r) n w p
-    cube-made true true h p = absurd (h refl refl)
+  -- and what it leaves
+  pub cube-made : (o z : Bool) → (o ≡ true → z ≡ true → ⊥) → {Y : View} {t : Result ℕ Full}
+      → MakePost X Y limit l (unless_arrow o a) (unless_arrow z a) t → Worked m N limit W Y t (more l G o z)
+  cube-made false false h p = row_made r (divides (rows_of W) lm (splits_plain g)) w again p
+  cube-made false true h p = row_made r (divides (rows_of W) lm (splits_zero g)) w (at-nothing ready) p
+  cube-made true false h p = row_made r (divides (rows_of W) lm (splits_one g)) (at-nothing r) w p
+  cube-made true true h p = absurd (h refl refl)
 
 -- ---- the calls
 
@@ -188,10 +185,10 @@ module _ {m N limit : ℕ} {W : View} {o z p : ℕ} (c : CubePre m N limit W o z
   cube-levels = let e = c.ready.levels-is in let l = c.ready.good.sizes.n_max in omega arith
 
   -- no bit is left
-  pub cube-ends : m ≤ 2 * p → Worked m N limit W W (made_of 1) (cube_rest m p o z)
+  pub cube-ends : m ≤ 2 * p → Worked m N limit W W (Ok 1) (cube_rest m p o z)
   cube-ends l =
       let e : 0 ≡ m / 2 - p = omega arith in
-      subst (λ (j : ℕ). Worked m N limit W W (made_of 1) (cube_from j p o z)) e (worked_there c.ready (everything-denotes m _))
+      subst (λ (j : ℕ). Worked m N limit W W (Ok 1) (cube_from j p o z)) e (worked_there c.ready (everything-denotes m _))
 
   module _ (l : 2 * p < m) where
     two : (b : ℕ) → m ≡ 2 * b → suc (m / 2 - suc p) ≡ m / 2 - p
@@ -203,18 +200,20 @@ module _ {m N limit : ℕ} {W : View} {o z p : ℕ} (c : CubePre m N limit W o z
     reads : Reads (suc (2 * p)) m (cube_rest m (suc p) o z)
     reads = let e = c.ready.levels-is in cube_reads (m / 2 - suc p) (suc p) o z (suc (2 * p)) m (omega arith) (omega arith)
 
-    to-rest : {X : View} {t : Made} → Worked m N limit W X t (λ v. literal (bit p o) (bit p z) (v (2 * p)) && cube_rest m (suc p) o z v)
+    to-rest : {X : View} {t : Result ℕ Full}
+        → Worked m N limit W X t (λ v. literal (bit p o) (bit p z) (v (2 * p)) && cube_rest m (suc p) o z v)
         → Worked m N limit W X t (cube_rest m p o z)
     to-rest {X} {t} w = subst (λ (j : ℕ). Worked m N limit W X t (cube_from j p o z)) (two _ c.ready.levels-is) w
 
-    from_next : {X : View} {t : Made} → Worked m N limit W X t (cube_rest m (p + 1) o z) → Worked m N limit W X t (cube_rest m (suc p) o z)
+    from_next : {X : View} {t : Result ℕ Full} → Worked m N limit W X t (cube_rest m (p + 1) o z)
+        → Worked m N limit W X t (cube_rest m (suc p) o z)
     from_next {X} {t} w = let e : p + 1 ≡ suc p = omega arith in subst (λ (q : ℕ). Worked m N limit W X t (cube_rest m q o z)) e w
 
-    pub rest-full : {X : View} {a : ℕ} → a ≡ FULL → Worked m N limit W X (made_of a) (cube_rest m (p + 1) o z)
-        → Worked m N limit W X (made_of FULL) (cube_rest m p o z)
-    rest-full e w = to-rest (cube-full c.ready l reads (from_next w) (bit p o) (bit p z) (c.apart p) e)
+    pub rest-full : {X : View} {e f : Full} → Worked m N limit W X (Err e) (cube_rest m (p + 1) o z)
+        → Worked m N limit W X (Err f) (cube_rest m p o z)
+    rest-full w = to-rest (cube-full c.ready l reads (from_next w) (bit p o) (bit p z) (c.apart p))
 
-    module _ {X : View} {a lo hi : ℕ} (n : a ≢ FULL) (w : Worked m N limit W X (made_of a) (cube_rest m (p + 1) o z)) {bo bz : Bool}
+    module _ {X : View} {a lo hi : ℕ} (w : Worked m N limit W X (Ok a) (cube_rest m (p + 1) o z)) {bo bz : Bool}
         (eo : bo ≡ bit p o) (el : lo ≡ unless_arrow bo a) (ez : bz ≡ bit p z) (eh : hi ≡ unless_arrow bz a) where
       low-is : unless_arrow (bit p o) a ≡ lo
       low-is = sym (el ∙ ap (λ (b : Bool). unless_arrow b a) eo)
@@ -226,27 +225,27 @@ module _ {m N limit : ℕ} {W : View} {o z p : ℕ} (c : CubePre m N limit W o z
       rest-asks =
           subst (λ (x : ℕ). MakePre X limit (2 * p) x hi) low-is
           (subst (λ (y : ℕ). MakePre X limit (2 * p) (unless_arrow (bit p o) a) y) high_is
-          (cube-asks c.ready l reads (from_next w) n (bit p o) (bit p z) (c.apart p)))
+          (cube-asks c.ready l reads (from_next w) (bit p o) (bit p z) (c.apart p)))
 
-      pub rest-made : {Y : View} {t : Made} → MakePost X Y limit (2 * p) lo hi t → Worked m N limit W Y t (cube_rest m p o z)
+      pub rest-made : {Y : View} {t : Result ℕ Full} → MakePost X Y limit (2 * p) lo hi t → Worked m N limit W Y t (cube_rest m p o z)
       rest-made {Y} {t} q =
           let q1 = subst (λ (x : ℕ). MakePost X Y limit (2 * p) x hi t) (sym low-is) q in
           let q2 = subst (λ (y : ℕ). MakePost X Y limit (2 * p) (unless_arrow (bit p o) a) y t) (sym high_is) q1 in
-          to-rest (cube-made c.ready l reads (from_next w) n (bit p o) (bit p z) (c.apart p) q2)
+          to-rest (cube-made c.ready l reads (from_next w) (bit p o) (bit p z) (c.apart p) q2)
 
 module _ {m N limit : ℕ} {W : View} (r : Ready m N limit W) (o z : ℕ) where
-  empty : ((v : Val) → cube_f m o z v ≡ false) → Worked m N limit W W (made_of 0) (cube_f m o z)
+  empty : ((v : Val) → cube_f m o z v ≡ false) → Worked m N limit W W (Ok 0) (cube_f m o z)
   empty e = worked_cong (λ v. sym (e v)) (worked_there r (nothing-denotes m _))
 
   false_left : (b x : Bool) → b ≡ false → (b && x) ≡ false
   false_left b x e = rw e refl
 
   -- a bit of `ones` that no state has
-  pub cube-beyond : o / 2 ^ (m / 2) ≢ 0 → Worked m N limit W W (made_of 0) (cube_f m o z)
+  pub cube-beyond : o / 2 ^ (m / 2) ≢ 0 → Worked m N limit W W (Ok 0) (cube_f m o z)
   cube-beyond h = empty (λ v. false_left (eqb (o / 2 ^ (m / 2)) 0) _ (T_false _ (λ t. h (eqb→eq _ 0 t))))
 
   -- a bit in both
-  pub cube_clash : bit_and o z ≢ 0 → Worked m N limit W W (made_of 0) (cube_f m o z)
+  pub cube_clash : bit_and o z ≢ 0 → Worked m N limit W W (Ok 0) (cube_f m o z)
   cube_clash h = empty (λ v. go v (eqb (o / 2 ^ (m / 2)) 0) refl)
     where
       go : (v : Val) (b : Bool) → eqb (o / 2 ^ (m / 2)) 0 ≡ b → (b && cube_from (m / 2) 0 o z v) ≡ false
@@ -262,7 +261,7 @@ module _ {m N limit : ℕ} {W : View} (r : Ready m N limit W) (o z : ℕ) where
   pub cube-starts : bit_and o z ≡ 0 → CubePre m N limit W o z 0
   cube-starts e = record { ready = r; within = omega arith; apart = and-apart o z e }
 
-  pub cube-whole : {X : View} {t : Made} → o / 2 ^ (m / 2) ≡ 0 → Worked m N limit W X t (cube_rest m 0 o z)
+  pub cube-whole : {X : View} {t : Result ℕ Full} → o / 2 ^ (m / 2) ≡ 0 → Worked m N limit W X t (cube_rest m 0 o z)
       → Worked m N limit W X t (cube_f m o z)
   cube-whole {X} {t} e w =
       let h : m / 2 - 0 ≡ m / 2 = omega arith in

@@ -9,7 +9,7 @@ ghost use Rattle.operations.specs.Posts.{FnPost};
 ghost use Rattle.cubes.specs.Cube.{cube_f, cube_rest, unless_arrow, CubePre};
 
 use layout::Table;
-use table::{Code, make};
+use table::{Full, make};
 
 // Whether bit p of a number is 1.
 fn has(k: u32, p: u32) -> bool
@@ -38,32 +38,36 @@ fn cube_from(
     ones: u32,
     zeros: u32,
     p: u32,
-) -> u32
+) -> Result<u32, Full>
     requires { CubePre levels rows limit (view rows words.old) ones zeros p }
     ensures { FnPost levels rows limit words.old words.new result (cube_rest levels p ones zeros) }
 {
     if levels <= 2 * p {
-        return Table::EVERYTHING;
+        return Ok(Table::EVERYTHING);
     }
-    let a = cube_from(words, rows, levels, limit, ones, zeros, p + 1);
-    if a == Code::FULL {
-        return Code::FULL;
-    }
+    let a = cube_from(words, rows, levels, limit, ones, zeros, p + 1)?;
     let low = unless(has(ones, p), a);
     let high = unless(has(zeros, p), a);
     make(words, rows, limit, 2 * p, low, high)
 }
 
 // The states with every bit of `ones` and no bit of `zeros`: none where a bit is in both, or in `ones` and no state's.
-pub fn cube(words: &mut [u32], rows: u32, levels: u32, limit: u32, ones: u32, zeros: u32) -> u32
+pub fn cube(
+    words: &mut [u32],
+    rows: u32,
+    levels: u32,
+    limit: u32,
+    ones: u32,
+    zeros: u32,
+) -> Result<u32, Full>
     requires { Ready levels rows limit (view rows words.old) }
     ensures { FnPost levels rows limit words.old words.new result (cube_f levels ones zeros) }
 {
     if ones & zeros != 0 {
-        return Table::NOTHING;
+        return Ok(Table::NOTHING);
     }
     if ones >> (levels / 2) != 0 {
-        return Table::NOTHING;
+        return Ok(Table::NOTHING);
     }
     cube_from(words, rows, levels, limit, ones, zeros, 0)
 }

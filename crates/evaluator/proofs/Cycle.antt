@@ -1,5 +1,6 @@
 -- What each function of the cycle asks of those that it calls, and what its answers are made of theirs: a law for each call and return.
 -- Assumes nothing.
+use Rattle.std.specs.Prelude.{Option, Some, Result, Err}
 use mathlib.Core.Path.{◌≡◌, refl, sym, ap, ◌∙◌, subst}
 use mathlib.Core.Logic.{◌≢◌, ⊎_elim, inr}
 use mathlib.Core.Bool.{true, false, true≢false}
@@ -18,19 +19,19 @@ use Rattle.tokens.specs.declared.Fix.{Fix}
 use Rattle.tokens.specs.declared.Two.TheVariants.{Join as Joins, Until}
 use Rattle.tokens.specs.declared.Token.{Token}
 use Rattle.tokens.specs.declared.Token.TheVariants.{Leaf as LeafToken, Not, Both, Modal, Binder}
-use Rattle.tokens.specs.declared.Lead.{Lead}
-use Rattle.tokens.specs.declared.Lead.TheVariants.{Is}
 use Rattle.formula.proofs.Steps.{is-not, is-modal, is_binder}
 use Rattle.accounts.specs.declared.Count.{Count}
 use Rattle.accounts.specs.Count.{another}
 use Rattle.layout.specs.Places.{VALID, HEADER, FIRST_RELATION}
 use Rattle.layout.specs.View.{View, view}
+use Rattle.table.specs.declared.Full.{Full}
 use Rattle.counting.specs.Counts.{CountsOf}
 use Rattle.steps.specs.declared.Step.TheVariants as step
 use Rattle.counting.specs.declared.Taken.{Taken}
 use Rattle.book.specs.Turns.{start_arrow}
 use Rattle.modal.specs.declared.Limits.{Limits}
 use Rattle.modal.specs.Modal.{ModalPre}
+use Rattle.evaluator.specs.Scene.{evaluated}
 use Rattle.evaluator.specs.Scene.{stack_size, Scene, Ready, holds_reg, holds_rel, Answers, from_taken, body_of, round_of, is_least, OverPost}
 use Rattle.evaluator.specs.Scene.{LivePre, LivePost, JoinedPre, JoinedPost, ConfinedPre, ConfinedPost, LeafPre, LeafPost, Evaluates}
 use Rattle.evaluator.specs.Scene.{EvalPre, EvalPost, NegatePost, BothPre, BothPost, ModePre, ModePost, fix_of, variable_of, BodyPart}
@@ -39,8 +40,9 @@ use Rattle.evaluator.proofs.Scene.{opened}
 use Rattle.evaluator.specs.declared.Body.{Body}
 use Rattle.evaluator.specs.declared.Body.TheVariants as body
 use Rattle.evaluator.specs.declared.Context.{Context}
-use Rattle.evaluator.specs.declared.Evaluated.{Evaluated}
-use Rattle.evaluator.specs.declared.Evaluated.TheVariants.{Value, Spent}
+use Rattle.evaluator.specs.declared.Stopped.{Stopped}
+use Rattle.evaluator.specs.declared.Value.{Value}
+use Rattle.evaluator.specs.declared.Stopped.TheVariants as stopped
 use Rattle.evaluator.proofs.Tokens.{read-depth, read-allowed, leaf_form_lem, leaf-end, one_form, both-form}
 use Rattle.evaluator.proofs.Parts.{leaf-named, not-part, modal-part, modal-relation, binder_part, left-part, right-part}
 use Rattle.evaluator.proofs.Parts.{until-relation}
@@ -59,7 +61,7 @@ inward c = record { at = c.at + 1; depth = c.depth - 1; held = c.held; places = 
 -- ---- by the token
 
 module _ {g : Grammar} {L : Limits} {W : View} {stack bs : List ℕ} {c : Context} (P : EvalPre g L W stack bs c)
-    {ld : Lead} (found : ld ≡ lead_at L.bits g bs c.at) {t : Token} (is : ld ≡ Is t) where
+    {ld : Option Token} (found : ld ≡ lead_at L.bits g bs c.at) {t : Token} (is : ld ≡ Some t) where
   room : c.held + 2 * (c.depth - 1) + 1 < stack_size
   room = let l = P.room in let d = read-depth P.part.stands in omega arith
 
@@ -74,7 +76,8 @@ module _ {g : Grammar} {L : Limits} {W : View} {stack bs : List ℕ} {c : Contex
           taken = read-allowed P.part.stands found is leaf;
         }
 
-    pub leaf-answered : {X : View} {o : Taken} {r : Evaluated} → LeafPost g L W X stack c l o → r ≡ from_taken (c.at + 1) o
+    pub leaf-answered : {X : View} {o : Result Taken Full} {r : Result Value Stopped} → LeafPost g L W X stack c l o
+        → r ≡ from_taken (c.at + 1) o
         → EvalPost g L W X stack stack bs c r
     leaf-answered A is-r = record {
       answers =
@@ -96,7 +99,7 @@ module _ {g : Grammar} {L : Limits} {W : View} {stack bs : List ℕ} {c : Contex
           part = not-part P.part found is one;
         }
 
-    pub not-answered : {X : View} {after : List ℕ} {r : Evaluated} → NegatePost g L W X stack after bs (inward c) r
+    pub not-answered : {X : View} {after : List ℕ} {r : Result Value Stopped} → NegatePost g L W X stack after bs (inward c) r
         → EvalPost g L W X stack after bs c r
     not-answered A =
         record {
@@ -118,7 +121,7 @@ module _ {g : Grammar} {L : Limits} {W : View} {stack bs : List ℕ} {c : Contex
       second = right-part P.part found is two;
     }
 
-    pub both-answered : {X : View} {after : List ℕ} {r : Evaluated} → BothPost g L W X stack after bs (inward c) j r
+    pub both-answered : {X : View} {after : List ℕ} {r : Result Value Stopped} → BothPost g L W X stack after bs (inward c) j r
         → EvalPost g L W X stack after bs c r
     both-answered A = record {
       answers =
@@ -128,7 +131,7 @@ module _ {g : Grammar} {L : Limits} {W : View} {stack bs : List ℕ} {c : Contex
 
 -- the same of a formula of runs
 module _ {L : Limits} {W : View} {stack bs : List ℕ} {c : Context} (P : EvalPre Runs L W stack bs c)
-    {ld : Lead} (found : ld ≡ lead_at L.bits Runs bs c.at) {t : Token} (is : ld ≡ Is t) where
+    {ld : Option Token} (found : ld ≡ lead_at L.bits Runs bs c.at) {t : Token} (is : ld ≡ Some t) where
   module _ {m : Mode} {u : ℕ} (two : t ≡ Both (Until m u)) {b b' : Body} (same : b ≡ b') (body : UntilPost L bs (inward c) m u b') where
     run-until-asked : BindPre L W stack bs (inward c) b
     run-until-asked =
@@ -142,7 +145,7 @@ module _ {L : Limits} {W : View} {stack bs : List ℕ} {c : Context} (P : EvalPr
           part = until-part m P.ready p (right-part P.part found is two) (until-relation P.part found is two);
         })
 
-    run-until-answered : {X : View} {after : List ℕ} {r : Evaluated} → BindPost L W X stack after bs (inward c) b r
+    run-until-answered : {X : View} {after : List ℕ} {r : Result Value Stopped} → BindPost L W X stack after bs (inward c) b r
         → EvalPost Runs L W X stack after bs c r
     run-until-answered {X} {after} {r} A = record {
       answers = λ σ f e R p.
@@ -165,7 +168,7 @@ module _ {L : Limits} {W : View} {stack bs : List ℕ} {c : Context} (P : EvalPr
       relation = modal-relation P.part found is one;
     }
 
-    run_mode_answered : {X : View} {after : List ℕ} {r : Evaluated} → ModePost L W X stack after bs (inward c) m u r
+    run_mode_answered : {X : View} {after : List ℕ} {r : Result Value Stopped} → ModePost L W X stack after bs (inward c) m u r
         → EvalPost Runs L W X stack after bs c r
     run_mode_answered A = record {
       answers =
@@ -184,7 +187,7 @@ module _ {L : Limits} {W : View} {stack bs : List ℕ} {c : Context} (P : EvalPr
       part = record { parts = binder_part P.part found is one };
     })
 
-    run-bind-answered : {X : View} {after : List ℕ} {r : Evaluated} → BindPost L W X stack after bs (inward c) b r
+    run-bind-answered : {X : View} {after : List ℕ} {r : Result Value Stopped} → BindPost L W X stack after bs (inward c) b r
         → EvalPost Runs L W X stack after bs c r
     run-bind-answered {X} {after} {r} A = record {
       answers = λ σ f e R p.
@@ -198,7 +201,7 @@ runs-only : {g : Grammar} → Evaluates g → (t : Token) (n : ℕ) → allowed 
 runs-only takes t n a none = ⊎_elim (λ e. absurd (true≢false (sym a ∙ ap (allowed t n) e ∙ none))) (λ e. e) takes
 
 module _ {g : Grammar} {L : Limits} {W : View} {stack bs : List ℕ} {c : Context} (P : EvalPre g L W stack bs c)
-    {ld : Lead} (found : ld ≡ lead_at L.bits g bs c.at) {t : Token} (is : ld ≡ Is t) where
+    {ld : Option Token} (found : ld ≡ lead_at L.bits g bs c.at) {t : Token} (is : ld ≡ Some t) where
   -- read as a formula of runs
   module _ (e : g ≡ Runs) where
     run-pre : EvalPre Runs L W stack bs c
@@ -207,7 +210,8 @@ module _ {g : Grammar} {L : Limits} {W : View} {stack bs : List ℕ} {c : Contex
     run-found : ld ≡ lead_at L.bits Runs bs c.at
     run-found = subst (λ (h : Grammar). ld ≡ lead_at L.bits h bs c.at) e found
 
-    run-post : {X : View} {after : List ℕ} {r : Evaluated} → EvalPost Runs L W X stack after bs c r → EvalPost g L W X stack after bs c r
+    run-post : {X : View} {after : List ℕ} {r : Result Value Stopped} → EvalPost Runs L W X stack after bs c r
+        → EvalPost g L W X stack after bs c r
     run-post {X} {after} {r} A = subst (λ (h : Grammar). EvalPost h L W X stack after bs c r) (sym e) A
 
   module _ {m : Mode} {u : ℕ} (two : t ≡ Both (Until m u)) {b b' : Body} (same : b ≡ b') (body : UntilPost L bs (inward c) m u b') where
@@ -217,7 +221,7 @@ module _ {g : Grammar} {L : Limits} {W : View} {stack bs : List ℕ} {c : Contex
     pub until-asked : BindPre L W stack bs (inward c) b
     until-asked = run-until-asked (run-pre is-until) (run-found is-until) is two same body
 
-    pub until-answered : {X : View} {after : List ℕ} {r : Evaluated} → BindPost L W X stack after bs (inward c) b r
+    pub until-answered : {X : View} {after : List ℕ} {r : Result Value Stopped} → BindPost L W X stack after bs (inward c) b r
         → EvalPost g L W X stack after bs c r
     until-answered A = run-post is-until (run-until-answered (run-pre is-until) (run-found is-until) is two same body A)
 
@@ -228,7 +232,7 @@ module _ {g : Grammar} {L : Limits} {W : View} {stack bs : List ℕ} {c : Contex
     pub mode_asked : ModePre L W stack bs (inward c) u
     mode_asked = run_mode_asked (run-pre is-modal-runs) (run-found is-modal-runs) is one
 
-    pub mode_answered : {X : View} {after : List ℕ} {r : Evaluated} → ModePost L W X stack after bs (inward c) m u r
+    pub mode_answered : {X : View} {after : List ℕ} {r : Result Value Stopped} → ModePost L W X stack after bs (inward c) m u r
         → EvalPost g L W X stack after bs c r
     mode_answered A = run-post is-modal-runs (run_mode_answered (run-pre is-modal-runs) (run-found is-modal-runs) is one A)
 
@@ -239,26 +243,27 @@ module _ {g : Grammar} {L : Limits} {W : View} {stack bs : List ℕ} {c : Contex
     pub bind-asked : BindPre L W stack bs (inward c) b
     bind-asked = run-bind-asked (run-pre is_binder_runs) (run-found is_binder_runs) is one same
 
-    pub bind-answered : {X : View} {after : List ℕ} {r : Evaluated} → BindPost L W X stack after bs (inward c) b r
+    pub bind-answered : {X : View} {after : List ℕ} {r : Result Value Stopped} → BindPost L W X stack after bs (inward c) b r
         → EvalPost g L W X stack after bs c r
     bind-answered A = run-post is_binder_runs (run-bind-answered (run-pre is_binder_runs) (run-found is_binder_runs) is one same A)
 
 -- ---- NOT
 
 module _ {g : Grammar} {L : Limits} {W X : View} {stack after bs : List ℕ}
-    {c : Context} {r : Evaluated} (E : EvalPost g L W X stack after bs c r) where
+    {c : Context} {r : Result Value Stopped} (E : EvalPost g L W X stack after bs c r) where
   pub negate_halts : Halts r → NegatePost g L W X stack after bs c r
   negate_halts s = record { answers = λ σ f e R p. negate_stops (E.answers σ f e R p) s }
 
-  module _ (z : length after ≡ length stack) {a k : ℕ} {q : Count} (is : r ≡ Value a k q) where
+  module _ (z : length after ≡ length stack) {a k : ℕ} {q : Count} (is : r ≡ evaluated a k q) where
     pub negate-asked : EvalPre g L W stack bs c → LivePre L X after c.held (step.Not a)
     negate-asked P = negate-asks P.ready (E.answers P.scene P.form P.end P.ready P.part) z is
 
-    module _ {Y : View} {o : Taken} (s : LivePost L X Y after c.held (step.Not a) q o) where
+    module _ {Y : View} {o : Result Taken Full} (s : LivePost L X Y after c.held (step.Not a) q o) where
       pub confined-asked : EvalPre g L W stack bs c → ConfinedPre L Y after c.held o
       confined-asked P = negate-confined P.ready (E.answers P.scene P.form P.end P.ready P.part) z is s
 
-      pub negate-answered : {Z : View} {u : Taken} {r' : Evaluated} → ConfinedPost (only_now g) L Y Z after c.held o u
+      pub negate-answered : {Z : View} {u : Result Taken Full} {r' : Result Value Stopped}
+          → ConfinedPost (only_now g) L Y Z after c.held o u
           → r' ≡ from_taken k u → NegatePost g L W Z stack after bs c r'
       negate-answered w is-r = record { answers = λ σ f e R p. negate-ends R (E.answers σ f e R p) z is s w is-r }
 
@@ -278,12 +283,13 @@ first-asked P =
       part = P.first;
     }
 
-module _ {g : Grammar} {L : Limits} {W X : View} {stack after bs : List ℕ} {c : Context} {r : Evaluated} (P : BothPre g L W stack bs c)
+module _ {g : Grammar} {L : Limits} {W X : View} {stack after bs : List ℕ} {c : Context} {r : Result Value Stopped}
+    (P : BothPre g L W stack bs c)
     (E : EvalPost g L W X stack after bs c r) where
   pub first_halts : Halts r → (j : Join) → BothPost g L W X stack after bs c j r
   first_halts s j = record { answers = λ σ f h m e R p q. first_stops (E.answers σ f m R p) s j h e }
 
-  module _ (z : length after ≡ length stack) {a k : ℕ} {q : Count} (is : r ≡ Value a k q) where
+  module _ (z : length after ≡ length stack) {a k : ℕ} {q : Count} (is : r ≡ evaluated a k q) where
     free : c.held < stack_size
     free = let l = P.room in omega arith
 
@@ -302,7 +308,7 @@ module _ {g : Grammar} {L : Limits} {W X : View} {stack after bs : List ℕ} {c 
     })
 
     module _ {b : Context} (i : b ≡ round_of c k q) {Y : View} {last : List ℕ}
-        {r' : Evaluated} (F' : EvalPost g L X Y (set after c.held a) last bs b r')
+        {r' : Result Value Stopped} (F' : EvalPost g L X Y (set after c.held a) last bs b r')
         (z' : length last ≡ length (set after c.held a)) where
       F : EvalPost g L X Y (set after c.held a) last bs (round_of c k q) r'
       F = subst (λ (d : Context). EvalPost g L X Y (set after c.held a) last bs d r') i F'
@@ -317,7 +323,7 @@ module _ {g : Grammar} {L : Limits} {W X : View} {stack after bs : List ℕ} {c 
             (both-part P.ready first z is P.second)) is' j refl;
       }
 
-      pub joined-answered : {j : Join} {Z : View} {r'' : Evaluated} → JoinedPost L Y Z last c.held j a r' r''
+      pub joined-answered : {j : Join} {Z : View} {r'' : Result Value Stopped} → JoinedPost L Y Z last c.held j a r' r''
           → BothPost g L W Z stack last bs c j r''
       joined-answered {j} J = record {
         answers = λ σ f h m e R p q. let A = E.answers σ f m R p in
@@ -339,12 +345,12 @@ part-asked P =
       part = P.part;
     }
 
-module _ {L : Limits} {W X : View} {stack after bs : List ℕ} {c : Context} {r : Evaluated} {t : ℕ} (P : ModePre L W stack bs c t)
+module _ {L : Limits} {W X : View} {stack after bs : List ℕ} {c : Context} {r : Result Value Stopped} {t : ℕ} (P : ModePre L W stack bs c t)
     (E : EvalPost Runs L W X stack after bs c r) where
   pub mode_halts : Halts r → (m : Mode) → ModePost L W X stack after bs c m t r
   mode_halts s m = record { answers = λ σ f e R p h. mode_stops (E.answers σ f e R p) s m t }
 
-  module _ (z : length after ≡ length stack) {a k : ℕ} {q : Count} (is : r ≡ Value a k q) where
+  module _ (z : length after ≡ length stack) {a k : ℕ} {q : Count} (is : r ≡ evaluated a k q) where
     whole : Answers true L W X stack after c.held c.count P.scene P.form P.end r
     whole = E.answers P.scene P.form P.end P.ready P.part
 
@@ -363,7 +369,7 @@ module _ {L : Limits} {W X : View} {stack after bs : List ℕ} {c : Context} {r 
       pub over-asked : ModalPre L.bits L.rows L.limit X (take c.held after) x a
       over-asked = over-asks P.ready whole z is t P.relation x arrow
 
-      pub over-answered : {Y : View} (o : Taken) (m : Mode) {r' : Evaluated}
+      pub over-answered : {Y : View} (o : Result Taken Full) (m : Mode) {r' : Result Value Stopped}
           → OverPost m L.bits L.rows L.limit X Y (take c.held after) x a q o → r' ≡ from_taken k o
           → ModePost L W Y stack after bs c m t r'
       over-answered {Y} o m v is-r = record { answers = λ σ f e R p h. over-ends R (E.answers σ f e R p) z is t h x arrow Y o m v is-r }
@@ -412,7 +418,7 @@ loop-starts {L} {words} {body = body} C v r e = record {
 module _ {L : Limits} {words₀ words counts₀ counts stack after bs : List ℕ}
     {c : Context} {body : Body} {a : ℕ} {counted : Count} (P : BindPre L (view L.rows words₀) stack bs c body)
     (I : Looping L words₀ words counts₀ counts stack after bs c body a counted) where
-  pub rounds_out : L.rounds ≤ counted.rounds → BindPost L (view L.rows words₀) (view L.rows words) stack after bs c body Spent
+  pub rounds_out : L.rounds ≤ counted.rounds → BindPost L (view L.rows words₀) (view L.rows words) stack after bs c body (Err stopped.Spent)
   rounds_out l = record { answers = λ σ f e R p. bind_out R (I.turns.bound σ f e R p) e l }
 
   module _ {b : Context} {v : ℕ} {n : Count} (is-opened : b ≡ body_of c v n) (is-variable : v ≡ variable_of body)
@@ -441,7 +447,8 @@ module _ {L : Limits} {words₀ words counts₀ counts stack after bs : List ℕ
         (turn-asks {c = body_of c (variable_of body) (another counted)} P.scene T.turning.A T.turning.denotes T.turning.exists
         body (inner P.ready P.part) (let l = P.room in omega arith) P.part)
 
-    module _ {Y : View} {last : List ℕ} {r : Evaluated} (E : TurnPost L (view L.rows words) Y (set after c.held a) last bs b body a r)
+    module _ {Y : View} {last : List ℕ} {r : Result Value Stopped}
+        (E : TurnPost L (view L.rows words) Y (set after c.held a) last bs b body a r)
         (more : counted.rounds < L.rounds) where
       module _ {σ : Scene} {f : Form} {e : ℕ} (R : Ready L (view L.rows words₀) stack c.places c.held σ)
           (p : BodyPart L.bits bs c.at c.depth (set σ.scope (variable_of body) true) (holds_reg σ) (holds_rel σ) body f e) where
@@ -456,8 +463,8 @@ module _ {L : Limits} {words₀ words counts₀ counts stack after bs : List ℕ
       pub body_halts : Halts r → BindPost L (view L.rows words₀) Y stack last bs c body r
       body_halts h = record { answers = λ σ f e R p. bind_stops R (stands R p) I.stack_size_lem open_room (answered R p) more h }
 
-      module _ {d k : ℕ} {q : Count} (is : r ≡ Value d k q) where
-        pub body_same : d ≡ a → BindPost L (view L.rows words₀) Y stack last bs c body (Value d k q)
+      module _ {d k : ℕ} {q : Count} (is : r ≡ evaluated d k q) where
+        pub body_same : d ≡ a → BindPost L (view L.rows words₀) Y stack last bs c body (evaluated d k q)
         body_same h = record { answers = λ σ f e R p. bind-ends R (stands R p) I.stack_size_lem open_room (answered R p) more is h }
 
         pub body_less : counted.rounds < q.rounds

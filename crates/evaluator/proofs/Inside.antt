@@ -1,4 +1,5 @@
 -- `within`: AND with V, SHIFT of V and AND with that, one law for each call and return. Assumes nothing.
+use Rattle.std.specs.Prelude.{Result}
 use mathlib.Core.Path.{◌≡◌, refl, sym, ap, ap₂, ◌∙◌, subst}
 use mathlib.Core.Bool.{Bool, true, false, ◌&&◌}
 use mathlib.Core.List.Memᴰ.{head as here}
@@ -25,8 +26,9 @@ use Rattle.diagram.specs.Steps.{and_f, shift_f}
 use Rattle.rows.specs.Used.{rows_of}
 use Rattle.rows.specs.Within.{valid_of}
 use Rattle.steps.specs.declared.Step.TheVariants as step
+use Rattle.table.specs.declared.Full.{Full}
+use Rattle.counting.specs.Taken.{taken, ran_out}
 use Rattle.counting.specs.declared.Taken.{Taken}
-use Rattle.counting.specs.declared.Taken.TheVariants as taken
 use Rattle.book.specs.Bridge.{fn_of}
 use Rattle.book.proofs.Bridge.{fn_of-clip, fn_of-even}
 use Rattle.book.specs.Run.{needing_all}
@@ -44,19 +46,20 @@ use Rattle.evaluator.proofs.Steps.{took_alike, took_roots, took_within, one-arro
 -- ---- chains of steps
 
 -- one step for G, whose operands are among its roots
-step_ran : {n N limit : ℕ} {W X : View} {roots ys : List ℕ} {fs : List Fn} {q : Count} {o : Taken} {F : Fn} (G : Fn)
+step_ran : {n N limit : ℕ} {W X : View} {roots ys : List ℕ} {fs : List Fn} {q : Count} {o : Result Taken Full} {F : Fn} (G : Fn)
     → Held (2 * n) (rows_of W) ys fs → Within roots ys → F ≡ G → Took n N limit W X ys q o F
     → Ran n N W X roots (leb (step_need (2 * n) fs G) limit) G (needing q (step_need (2 * n) fs G)) o
 step_ran {n} {N} {limit} {W} {X} {ys = ys} {q = q} {o} G h w e t = ran_step h w (subst (λ (F : Fn). Took n N limit W X ys q o F) e t)
 
 -- fewer roots
-ran_within : {n N : ℕ} {W X : View} {roots ys : List ℕ} {b : Bool} {F : Fn} {c : Count} {o : Taken} → Within roots ys
+ran_within : {n N : ℕ} {W X : View} {roots ys : List ℕ} {b : Bool} {F : Fn} {c : Count} {o : Result Taken Full} → Within roots ys
     → Ran n N W X ys b F c o → Ran n N W X roots b F c o
 ran_within w r =
     record { moved = r.moved; evals = record { wf = r.evals.wf; kept = keeps_within w r.evals.kept; result = r.evals.result } }
 
 -- three steps fit where each does
-fit-last : {n N : ℕ} {W X : View} {roots : List ℕ} {F : Fn} {d : Count} {o : Taken} (a b c : Bool) → Ran n N W X roots (a && (b && c)) F d o
+fit-last : {n N : ℕ} {W X : View} {roots : List ℕ} {F : Fn} {d : Count} {o : Result Taken Full} (a b c : Bool)
+    → Ran n N W X roots (a && (b && c)) F d o
     → Ran n N W X roots (a && (b && (c && true))) F d o
 fit-last {n} {N} {W} {X} {roots} {F} {d} {o} a b c r = subst (λ (x : Bool). Ran n N W X roots (a && (b && x)) F d o) (go c) r
   where
@@ -82,7 +85,7 @@ module _ {L : Limits} {W : View} {stack : List ℕ} {a : ℕ} (v : ℕ) (read : 
   pub first-asks : {σ : Scene} → Ready L W stack no_places 0 σ → LivePre L W stack 0 (step.And a v)
   first-asks R = live-pre R (u, subst (Arrow (rows_of W)) (sym (valid-read W v read)) R.valid.arrow)
 
-  module _ {X : View} {q : Count} {o : Taken} (s : LivePost L W X stack 0 (step.And a v) q o) where
+  module _ {X : View} {q : Count} {o : Result Taken Full} (s : LivePost L W X stack 0 (step.And a v) q o) where
     module _ {σ : Scene} (R : Ready L W stack no_places 0 σ) where
       -- the operand, V and their AND
       abbrev F : Fn
@@ -106,10 +109,10 @@ module _ {L : Limits} {W : View} {stack : List ℕ} {a : ℕ} (v : ℕ) (read : 
           step_ran G (held-operand (held-push R.lives (denotes-own u)) (there (valid-held R))) (λ x i. there i)
           (ap (and_f F) (valid_fn R)) one_took
 
-    pub within-full : o ≡ taken.Full → WithinPost L W X stack a q taken.Full
+    pub within-full : o ≡ ran_out → WithinPost L W X stack a q ran_out
     within-full e = record { answers = λ σ R. ran_stop _ (within_f (E R) (F R)) _ e (one_ran R) }
 
-    module _ {b : ℕ} {q1 : Count} (e : o ≡ taken.At b q1) where
+    module _ {b : ℕ} {q1 : Count} (e : o ≡ taken b q1) where
       module _ {σ : Scene} (R : Ready L W stack no_places 0 σ) where
         b_is : Denotes (2 * L.bits) (rows_of X) b (G R)
         b_is = ran_value e (one_ran R)
@@ -134,7 +137,7 @@ module _ {L : Limits} {W : View} {stack : List ℕ} {a : ℕ} (v : ℕ) (read : 
           (subst (λ (x : ℕ). Arrow (rows_of X) x × ReadsOn even (den (2 * L.bits) (rows_of X) x)) (sym (same-valid R))
           ((two_ready R).valid.arrow, valid-even (two_ready R)))
 
-      module _ {Y : View} {o' : Taken} (s' : LivePost L X Y (set stack 0 b) 1 (step.Shift v) q1 o') where
+      module _ {Y : View} {o' : Result Taken Full} (s' : LivePost L X Y (set stack 0 b) 1 (step.Shift v) q1 o') where
         module _ {σ : Scene} (R : Ready L W stack no_places 0 σ) where
           two_took : Took L.bits L.rows L.limit X Y (b ∷ σ.roots) q1 o' (shift_f (E R))
           two_took =
@@ -151,7 +154,7 @@ module _ {L : Limits} {W : View} {stack : List ℕ} {a : ℕ} (v : ℕ) (read : 
               (shift_f (E R)) (needing q1 (step_need (2 * L.bits) (E R ∷ G R ∷ σ.fns) (shift_f (E R)))) o'
           two_ran = ran_step (held-operand (two_ready R).lives (there (valid-held R))) (λ x i. i) two_took
 
-        pub shift-full : o' ≡ taken.Full → WithinPost L W Y stack a q taken.Full
+        pub shift-full : o' ≡ ran_out → WithinPost L W Y stack a q ran_out
         shift-full f = record {
           answers = λ σ R.
               ran_then e (one_ran R)
@@ -161,7 +164,7 @@ module _ {L : Limits} {W : View} {stack : List ℕ} {a : ℕ} (v : ℕ) (read : 
               (ran_stop _ (within_f (E R) (F R)) _ f (ran_within (λ x i. there i) (two_ran R)));
         }
 
-        module _ {c : ℕ} {q2 : Count} (f : o' ≡ taken.At c q2) where
+        module _ {c : ℕ} {q2 : Count} (f : o' ≡ taken c q2) where
           module _ {σ : Scene} (R : Ready L W stack no_places 0 σ) where
             c_is : Denotes (2 * L.bits) (rows_of Y) c (shift_f (E R))
             c_is = ran_value f (two_ran R)
@@ -177,7 +180,8 @@ module _ {L : Limits} {W : View} {stack : List ℕ} {a : ℕ} (v : ℕ) (read : 
           pub last-asks : {σ : Scene} → Ready L W stack no_places 0 σ → LivePre L Y (set stack 0 b) 0 (step.And b c)
           last-asks R = live-pre (three_ready R) ((b_still R).arrow, (c_is R).arrow)
 
-          pub within-ends : {Z : View} {y : Taken} → LivePost L Y Z (set stack 0 b) 0 (step.And b c) q2 y → WithinPost L W Z stack a q y
+          pub within-ends : {Z : View} {y : Result Taken Full} → LivePost L Y Z (set stack 0 b) 0 (step.And b c) q2 y
+              → WithinPost L W Z stack a q y
           within-ends {Z} {y} w = record {
             answers = λ σ R.
                 let t = took {q = q2} {o = y} (three_ready R).base (last-asks R).asks w.stepped w.count in

@@ -1,4 +1,5 @@
 -- Leaves: constants, registers and variables take no step; a bit is one, and over states AND with V another. Assumes nothing.
+use Rattle.std.specs.Prelude.{Result}
 use mathlib.Core.Path.{◌≡◌, refl, sym, ap, ◌∙◌, subst}
 use mathlib.Core.Bool.{Bool, true, false, cond, true≢false}
 use mathlib.Core.List.Memᴰ.{not-nil as mem-nil}
@@ -30,10 +31,11 @@ use Rattle.diagram.specs.Post.{Denotes}
 use Rattle.diagram.specs.Steps.{bit_f}
 use Rattle.rows.specs.Used.{rows_of}
 use Rattle.steps.specs.declared.Step.TheVariants as step
+use Rattle.table.specs.declared.Full.{Full}
+use Rattle.counting.specs.Taken.{taken, ran_out}
 use Rattle.counting.specs.Counts.{CountsOf}
 use Rattle.counting.proofs.After.{and-all}
 use Rattle.counting.specs.declared.Taken.{Taken}
-use Rattle.counting.specs.declared.Taken.TheVariants as taken
 use Rattle.book.specs.Bridge.{fn_of}
 use Rattle.book.proofs.Bridge.{fn_of-bit, pairs-now, pairs_next}
 use Rattle.book.specs.Over.{pairs, size_of, all_pairs, levels, now_bit, next_bit}
@@ -54,13 +56,13 @@ module _ {L : Limits} {W : View} {stack places : List ℕ} {held : ℕ} {σ : Sc
   -- a leaf that takes no step
   still : {on_states : Bool} {q : Count} (f : Form) (a : ℕ) (A : List Bool) → run_in on_states L σ f q ≡ value A q
       → Denotes (2 * L.bits) (rows_of W) a (value_in on_states L.bits σ A)
-      → LeafAnswers on_states L W W q σ f (taken.At a q)
+      → LeafAnswers on_states L W W q σ f (taken a q)
   still {on_states} {q} f a A e d = record {
     moved = moved_refl R.base;
     evals = evals-same (sym e) (evals-leaf L.bits L.rows q (base-wf R.base) R.lives d);
   }
 
-  pub leaf-none : {on_states : Bool} {q : Count} → LeafAnswers on_states L W W q σ bot (taken.At 0 q)
+  pub leaf-none : {on_states : Bool} {q : Count} → LeafAnswers on_states L W W q σ bot (taken 0 q)
   leaf-none {on_states} = let o = over_in on_states L.bits σ in
       still bot 0 (no_states (size_of o)) refl
       (record {
@@ -69,11 +71,11 @@ module _ {L : Limits} {W : View} {stack places : List ℕ} {held : ℕ} {σ : Sc
       })
 
   leaf-true : {x : ℕ} {q : Count} (on_states : Bool) → TrueBy on_states (W.header VALID) x
-      → LeafAnswers on_states L W W q σ top (taken.At x q)
+      → LeafAnswers on_states L W W q σ top (taken x q)
   leaf-true {x} true e =
       still top x (exist_in L.bits σ) refl
       (subst (λ (y : ℕ). Denotes (2 * L.bits) (rows_of W) y (fn_of L.bits (exist_in L.bits σ))) (sym (valid-read W x e)) R.valid)
-  leaf-true {x} {q} false e = subst (λ (y : ℕ). LeafAnswers false L W W q σ top (taken.At y q)) (sym e)
+  leaf-true {x} {q} false e = subst (λ (y : ℕ). LeafAnswers false L W W q σ top (taken y q)) (sym e)
       (still top 1 (all_states (all_pairs L.bits)) refl
       (record {
         arrow =
@@ -82,7 +84,7 @@ module _ {L : Limits} {W : View} {stack places : List ℕ} {held : ℕ} {σ : Sc
       }))
 
   pub leaf-all : {on_states : Bool} {x : ℕ} {q : Count} → TrueIs on_states (W.header VALID) x
-      → LeafAnswers on_states L W W q σ top (taken.At x q)
+      → LeafAnswers on_states L W W q σ top (taken x q)
   leaf-all {on_states} e = leaf-true on_states e.says
 
   -- a variable
@@ -97,7 +99,7 @@ module _ {L : Limits} {W : View} {stack places : List ℕ} {held : ℕ} {σ : Sc
     pub var_below : get_or places P 0 < length stack
     var_below = let w = (R.open_at P is_open).below in let a = R.within in let b = R.size in omega arith
 
-    pub leaf_var : {q : Count} → LeafAnswers true L W W q σ (var P) (taken.At (get_or stack (get_or places P 0) 0) q)
+    pub leaf_var : {q : Count} → LeafAnswers true L W W q σ (var P) (taken (get_or stack (get_or places P 0) 0) q)
     leaf_var =
         still (var P) _ (inter (2 ^ L.bits) (σ.env P) (exist_in L.bits σ)) refl
         (denotes_in L.bits L.rows (σ.env P) (exist_in L.bits σ) (R.in-env P is_open) (R.open_at P is_open).denotes)
@@ -120,7 +122,7 @@ module _ {L : Limits} {W : View} {stack places : List ℕ} {held : ℕ} {σ : Sc
     pub reg-some : 0 < W.header (FIRST_REGISTER + r)
     reg-some = let e = content.3 in omega arith
 
-    pub leaf-reg : {x : ℕ} {q : Count} → x + 1 ≡ W.header (FIRST_REGISTER + r) → LeafAnswers true L W W q σ (reg r) (taken.At x q)
+    pub leaf-reg : {x : ℕ} {q : Count} → x + 1 ≡ W.header (FIRST_REGISTER + r) → LeafAnswers true L W W q σ (reg r) (taken x q)
     leaf-reg {x} {q} e =
         let same : content.2 ≡ x = let c = content.3 in omega arith in
         let d = subst (λ (a : ℕ). Denotes (2 * L.bits) (rows_of W) a (fn_of L.bits content.0)) same content.4 in
@@ -135,12 +137,13 @@ module _ {L : Limits} {W : View} {stack places : List ℕ} {held : ℕ} {σ : Sc
   pub bit-asks : LivePre L W stack held (step.Bit x)
   bit-asks = live-pre R l
 
-  bit_took : {X : View} {q : Count} {o : Taken} → LivePost L W X stack held (step.Bit x) q o
+  bit_took : {X : View} {q : Count} {o : Result Taken Full} → LivePost L W X stack held (step.Bit x) q o
       → Took L.bits L.rows L.limit W X σ.roots q o (bit_f x)
   bit_took {q = q} {o} s =
       took_roots [] R (λ a h. absurd (mem-nil h)) (took {q = q} {o = o} R.base bit-asks.asks s.stepped s.count)
 
-  pub bit-confined : {X : View} {q : Count} {o : Taken} → LivePost L W X stack held (step.Bit x) q o → ConfinedPre L X stack held o
+  pub bit-confined : {X : View} {q : Count} {o : Result Taken Full} → LivePost L W X stack held (step.Bit x) q o
+      → ConfinedPre L X stack held o
   bit-confined s = confined-asks R (λ a i. i) (bit_took s) s
 
 -- current bit p is level 2p
@@ -150,8 +153,8 @@ now-exact true m e p l = sym (fn_of-bit m.n p l)
 now-exact false m e p l = sym (points_value m.n (now p) ∙ pairs-now m.n p l)
 
 module _ {L : Limits} {W : View} {stack places : List ℕ} {held : ℕ} {σ : Scene} (R : Ready L W stack places held σ)
-    {p : ℕ} (l : p < L.bits) {X : View} {q : Count} {o : Taken} where
-  pub leaf-now : {on_states : Bool} → LivePost L W X stack held (step.Bit (2 * p)) q o → {Y : View} {u : Taken}
+    {p : ℕ} (l : p < L.bits) {X : View} {q : Count} {o : Result Taken Full} where
+  pub leaf-now : {on_states : Bool} → LivePost L W X stack held (step.Bit (2 * p)) q o → {Y : View} {u : Result Taken Full}
       → ConfinedPost on_states L X Y stack held o u → LeafAnswers on_states L W Y q σ (now p) u
   leaf-now {on_states} s c =
       let m = model_in L.bits σ in
@@ -176,12 +179,12 @@ pub as_leaf : {scope : List Bool} {regs rels : ℕ → Bool} {l : Leaf} (m : Lea
     → Named scope regs rels (leaf_form m)
 as_leaf {scope} {regs} {rels} m e h = subst (λ (x : Leaf). Named scope regs rels (leaf_form x)) e h
 
-pub leaf_as : {on_states : Bool} {L : Limits} {W X : View} {q : Count} {σ : Scene} {o : Taken} {l : Leaf} (m : Leaf) → l ≡ m
+pub leaf_as : {on_states : Bool} {L : Limits} {W X : View} {q : Count} {σ : Scene} {o : Result Taken Full} {l : Leaf} (m : Leaf) → l ≡ m
     → LeafAnswers on_states L W X q σ (leaf_form m) o → LeafAnswers on_states L W X q σ (leaf_form l) o
 leaf_as {on_states} {L} {W} {X} {q} {σ} {o} m e h = subst (λ (x : Leaf). LeafAnswers on_states L W X q σ (leaf_form x) o) (sym e) h
 
 -- what only one of the two takes
-pub leaf-over : {on_states c : Bool} {L : Limits} {W X : View} {q : Count} {σ : Scene} {o : Taken} {f : Form} → on_states ≡ c
+pub leaf-over : {on_states c : Bool} {L : Limits} {W X : View} {q : Count} {σ : Scene} {o : Result Taken Full} {f : Form} → on_states ≡ c
     → LeafAnswers c L W X q σ f o → LeafAnswers on_states L W X q σ f o
 leaf-over {on_states} {c} {L} {W} {X} {q} {σ} {o} {f} e h = subst (λ (x : Bool). LeafAnswers x L W X q σ f o) (sym e) h
 
@@ -212,38 +215,40 @@ reg-taken n g {p = p} e h = states-now g (as_taken n g (Reg p) e h)
 
 -- ---- `confined` and `truth`
 
-pub valid-asked : {L : Limits} {W : View} {stack : List ℕ} {held : ℕ} {first : Taken} {x : ℕ} {q : Count} → first ≡ taken.At x q → (v : ℕ)
+pub valid-asked : {L : Limits} {W : View} {stack : List ℕ} {held : ℕ} {first : Result Taken Full} {x : ℕ} {q : Count}
+    → first ≡ taken x q → (v : ℕ)
     → v + 1 ≡ W.header VALID → ConfinedPre L W stack held first
     → LivePre L W stack held (step.And x v)
 valid-asked {W = W} {x = x} {q} e v read P =
     live-pre P.ready (P.arrow x q e, subst (Arrow (rows_of W)) (sym (valid-read W v read)) P.ready.valid.arrow)
 
-module _ {on_states : Bool} {L : Limits} {W : View} {stack : List ℕ} {held : ℕ} {first : Taken} where
-  pub confined-none : first ≡ taken.Full → ConfinedPost on_states L W W stack held first taken.Full
-  confined-none e = subst (λ (x : Taken). ConfinedPost on_states L W W stack held x taken.Full) (sym e) (record { to = go on_states })
+module _ {on_states : Bool} {L : Limits} {W : View} {stack : List ℕ} {held : ℕ} {first : Result Taken Full} where
+  pub confined-none : first ≡ ran_out → ConfinedPost on_states L W W stack held first ran_out
+  confined-none e = subst (λ (x : Result Taken Full). ConfinedPost on_states L W W stack held x ran_out) (sym e)
+      (record { to = go on_states })
     where
-      go : (b : Bool) → ConfinedTo b L W W stack held taken.Full taken.Full
+      go : (b : Bool) → ConfinedTo b L W W stack held ran_out ran_out
       go true = (refl, refl)
       go false = (refl, refl)
 
-  module _ {x : ℕ} {q : Count} (e : first ≡ taken.At x q) where
+  module _ {x : ℕ} {q : Count} (e : first ≡ taken x q) where
     -- pairs are of all states
-    pub confined-all : on_states ≡ false → ConfinedPost on_states L W W stack held first (taken.At x q)
+    pub confined-all : on_states ≡ false → ConfinedPost on_states L W W stack held first (taken x q)
     confined-all i =
-        subst (λ (b : Bool). ConfinedPost b L W W stack held first (taken.At x q)) (sym i)
-        (subst (λ (y : Taken). ConfinedPost false L W W stack held y (taken.At x q)) (sym e) (record { to = (refl, refl) }))
+        subst (λ (b : Bool). ConfinedPost b L W W stack held first (taken x q)) (sym i)
+        (subst (λ (y : Result Taken Full). ConfinedPost false L W W stack held y (taken x q)) (sym e) (record { to = (refl, refl) }))
 
     module _ (v : ℕ) (read : v + 1 ≡ W.header VALID) where
-      pub confined-valid : on_states ≡ true → {X : View} {u : Taken} → LivePost L W X stack held (step.And x v) q u
+      pub confined-valid : on_states ≡ true → {X : View} {u : Result Taken Full} → LivePost L W X stack held (step.And x v) q u
           → ConfinedPost on_states L W X stack held first u
       confined-valid i {X} {u} s =
           subst (λ (b : Bool). ConfinedPost b L W X stack held first u) (sym i)
-          (subst (λ (y : Taken). ConfinedPost true L W X stack held y u) (sym e)
+          (subst (λ (y : Result Taken Full). ConfinedPost true L W X stack held y u) (sym e)
           (record { to = subst (λ (y : ℕ). LivePost L W X stack held (step.And x y) q u) (valid-read W v read) s }))
 
       -- V is every state: AND with it answers what the step before answered, and needs no more
       pub confined-known : {c : List ℕ} → on_states ≡ true → v ≡ 1 → ConfinedPre L W stack held first → CountsOf W c
-          → ConfinedPost on_states L W W stack held first (taken.At x q)
+          → ConfinedPost on_states L W W stack held first (taken x q)
       confined-known i one P k =
           let z = and-all P.before first e (P.told.stepped, k, P.told.count) (valid-asked e v read P).asks one in
           confined-valid i (record { stepped = z.0; count = z.2 })

@@ -1,11 +1,11 @@
 -- From what a part's evaluation and a chain of steps give to the book's outcome of the whole. Assumes nothing.
+use Rattle.std.specs.Prelude.{Result, Ok, Err}
+use Rattle.std.specs.Result.{IsErrAnd}
+use Rattle.std.proofs.lemmas.Result.{err_from_is_err_and}
 use mathlib.Core.Path.{◌≡◌, refl, sym, ap, ap₂, ◌∙◌, subst}
-use mathlib.Core.Logic.{◌⊎◌, ⊎_elim}
 use mathlib.Core.Bool.{Bool, true, false, cond}
 use mathlib.Core.List.{List, [], ◌∷◌, ◌++◌}
 use Prim.Native.Nat.{ℕ, ◌*◌, ◌^◌}
-use native.Mathlib.Omega.{arith}
-use denote.Enum.Declared.{tag_of, declared}
 use Rattle.mucalculus.specs.Form.{Form, neg, now, Pairs, Model, Env, put}
 use Rattle.mucalculus.specs.Means.{inter, union, compl, sometimes, always, size, exist, related}
 use Rattle.mucalculus.specs.Exist.{Inside}
@@ -14,7 +14,7 @@ use Rattle.mucalculus.specs.Order.{start}
 use Rattle.tokens.specs.declared.Join.{Join}
 use Rattle.tokens.specs.declared.Join.TheVariants.{And, Or}
 use Rattle.tokens.specs.declared.Mode.{Mode}
-use Rattle.tokens.specs.declared.Mode.TheVariants.{All, Some}
+use Rattle.tokens.specs.declared.Mode.TheVariants as mode
 use Rattle.tokens.specs.declared.Fix.{Fix}
 use Rattle.tokens.specs.declared.Fix.TheVariants.{Mu, Nu}
 use Rattle.formula.specs.Parse.{join_form, modal_form, binder_form}
@@ -22,9 +22,9 @@ use Rattle.diagram.specs.Level.{Fn}
 use Rattle.diagram.specs.Rows.{Rows}
 use Rattle.diagram.specs.Post.{Denotes}
 use Rattle.table.specs.Make.{result}
+use Rattle.table.specs.declared.Full.{Full}
 use Rattle.counting.specs.Taken.{made_in, count_in}
 use Rattle.counting.specs.declared.Taken.{Taken}
-use Rattle.counting.specs.declared.Taken.TheVariants as taken
 use Rattle.accounts.specs.declared.Count.{Count}
 use Rattle.diagram.specs.Need.{step_need}
 use Rattle.diagram.specs.Steps.{and_f, or_f}
@@ -45,55 +45,66 @@ use Rattle.modal.specs.Modal.{within_not, complement_needs, boxed_needs, boxed_f
 use Rattle.modal.specs.declared.Limits.{Limits}
 use Rattle.layout.specs.View.{View}
 use Rattle.steps.specs.declared.Step.{Step}
+use Rattle.evaluator.specs.Scene.{evaluated}
 use Rattle.evaluator.specs.Scene.{over_of, ended_of, ended_in, EndsAt, from_taken, join_step, is_least, LivePre, LivePost, JoinedPre}
 use Rattle.evaluator.specs.Scene.{JoinedPost}
-use Rattle.evaluator.specs.declared.Evaluated.{Evaluated}
-use Rattle.evaluator.specs.declared.Evaluated.TheVariants.{Value, Full, Spent}
-use Rattle.evaluator.specs.contracts.Evaluated.{enum}
+use Rattle.evaluator.specs.declared.Stopped.{Stopped}
+use Rattle.evaluator.specs.declared.Value.{Value}
+use Rattle.evaluator.specs.declared.Stopped.TheVariants as stopped
 
 -- ---- answers
 
 -- the answer is no value
-abbrev pub Halts : Evaluated → Type 0
-Halts r = (tag_of (declared enum) r ≡ 1) ⊎ (tag_of (declared enum) r ≡ 2)
+abbrev pub Halts : Result Value Stopped → Type 0
+Halts r = (s : Stopped) × (r ≡ Err s)
+
+no_halt : {v : Value} → Halts (Ok v) → ⊥
+no_halt h = let e = h.1 in cc
+
+-- what `?` hands on is what the part answered
+pub handed-on : (r : Result Value Stopped) {u : Result Value Stopped} {x : Stopped} → IsErrAnd r (λ (e : Stopped). e ≡ x) → u ≡ Err x
+    → r ≡ u
+handed-on r i w = let p = err_from_is_err_and r i in let told = p.1 in let same = p.2 in cc
 
 -- a part without value ends its joining, and one with a value goes through the step
-pub joined_stops : {L : Limits} {W : View} {stack : List ℕ} {held : ℕ} {j : Join} {a : ℕ} (r : Evaluated) → Halts r
+pub joined_stops : {L : Limits} {W : View} {stack : List ℕ} {held : ℕ} {j : Join} {a : ℕ} (r : Result Value Stopped) → Halts r
     → JoinedPost L W W stack held j a r r
-joined_stops (Value b k q) h = absurd (⊎_elim (λ x. omega arith) (λ x. omega arith) h)
-joined_stops Full h = record { joins = (refl, refl) }
-joined_stops Spent h = record { joins = (refl, refl) }
+joined_stops (Ok v) h = absurd (no_halt h)
+joined_stops (Err stopped.Full) h = record { joins = (refl, refl) }
+joined_stops (Err stopped.Spent) h = record { joins = (refl, refl) }
 
-pub joined_step : {L : Limits} {W : View} {stack : List ℕ} {held : ℕ} {j : Join} {a : ℕ} {second : Evaluated}
-    → JoinedPre L W stack held j a second → {b k : ℕ} {q : Count} → second ≡ Value b k q
+pub joined_step : {L : Limits} {W : View} {stack : List ℕ} {held : ℕ} {j : Join} {a : ℕ} {second : Result Value Stopped}
+    → JoinedPre L W stack held j a second → {b k : ℕ} {q : Count} → second ≡ evaluated b k q
     → {s : Step} → s ≡ join_step j a b → LivePre L W stack held s
 joined_step {L} {W} {stack} {held} P {b} {k} {q} is joins = subst (LivePre L W stack held) (sym joins) (P.asks b k q is)
 
-pub joined-steps : {L : Limits} {W X : View} {stack : List ℕ} {held : ℕ} {j : Join} {a : ℕ} {second : Evaluated} {b k : ℕ} {q : Count}
-    → second ≡ Value b k q → {s : Step} → s ≡ join_step j a b
-    → {o : Taken} {r : Evaluated} → LivePost L W X stack held s q o → r ≡ from_taken k o → JoinedPost L W X stack held j a second r
+pub joined-steps : {L : Limits} {W X : View} {stack : List ℕ} {held : ℕ} {j : Join} {a : ℕ} {second : Result Value Stopped} {b k : ℕ}
+    {q : Count}
+    → second ≡ evaluated b k q → {s : Step} → s ≡ join_step j a b
+    → {o : Result Taken Full} {r : Result Value Stopped} → LivePost L W X stack held s q o → r ≡ from_taken k o
+    → JoinedPost L W X stack held j a second r
 joined-steps {L} {W} {X} {stack} {held} {j} {a} {second} {b} {k} {q} is {s} joins {o} {r} v is-r =
-    subst (λ (x : Evaluated). JoinedPost L W X stack held j a x r) (sym is)
+    subst (λ (x : Result Value Stopped). JoinedPost L W X stack held j a x r) (sym is)
     (record { joins = (o, subst (λ (y : Step). LivePost L W X stack held y q o) joins v, is-r) })
 
-pub halts_stops : (r : Evaluated) → Halts r → Stops (ended_of r)
-halts_stops (Value a k q) h = ⊎_elim (λ x. omega arith) (λ x. omega arith) h
-halts_stops Full h = tt
-halts_stops Spent h = tt
+pub halts_stops : (r : Result Value Stopped) → Halts r → Stops (ended_of r)
+halts_stops (Ok v) h = absurd (no_halt h)
+halts_stops (Err stopped.Full) h = tt
+halts_stops (Err stopped.Spent) h = tt
 
-pub halts_end : (e : ℕ) (r : Evaluated) → Halts r → EndsAt e r
-halts_end e (Value a k q) h = absurd (⊎_elim (λ x. omega arith) (λ x. omega arith) h)
-halts_end e Full h = tt
-halts_end e Spent h = tt
+pub halts_end : (e : ℕ) (r : Result Value Stopped) → Halts r → EndsAt e r
+halts_end e (Ok v) h = absurd (no_halt h)
+halts_end e (Err stopped.Full) h = tt
+halts_end e (Err stopped.Spent) h = tt
 
 -- a step's answer
-pub taken-ended : (e : ℕ) (o : Taken) → ended_in o ≡ ended_of (from_taken e o)
-taken-ended e (taken.At a c) = refl
-taken-ended e taken.Full = refl
+pub taken-ended : (e : ℕ) (o : Result Taken Full) → ended_in o ≡ ended_of (from_taken e o)
+taken-ended e (Ok t) = refl
+taken-ended e (Err x) = refl
 
-pub taken-end : (e : ℕ) (o : Taken) → EndsAt e (from_taken e o)
-taken-end e (taken.At a c) = refl
-taken-end e taken.Full = tt
+pub taken-end : (e : ℕ) (o : Result Taken Full) → EndsAt e (from_taken e o)
+taken-end e (Ok t) = refl
+taken-end e (Err x) = tt
 
 -- a value stands for a set that its arrow denotes
 pub evals-value : {lv : List Bool → Fn} {n N : ℕ} {before after : Rows} {roots : List ℕ} {a : ℕ} {p : Count} (o : Outcome)
@@ -146,7 +157,8 @@ module _ (b : Bool) (m : Model) (e : Env) (N R : ℕ) (live : List Fn) where
       → run (over_of b m e) N R live (neg f) r ≡ and_then (run (over_of b m e) N R live f r) (λ A q. not_by b m e N live A q)
   run-neg f r = go b
     where
-      go : (b : Bool) → run (over_of b m e) N R live (neg f) r ≡ and_then (run (over_of b m e) N R live f r) (λ A q. not_by b m e N live A q)
+      go : (b : Bool)
+          → run (over_of b m e) N R live (neg f) r ≡ and_then (run (over_of b m e) N R live f r) (λ A q. not_by b m e N live A q)
       go true = refl
       go false = refl
 
@@ -159,14 +171,14 @@ module _ (b : Bool) (m : Model) (e : Env) (N R : ℕ) (live : List Fn) where
 
 -- E is V
 abbrev pub over_steps : Mode → ℕ → ℕ → List Fn → List Bool → Pairs → List Bool → Count → Outcome
-over_steps All n N live E R A q = box_steps n N live E R A q
-over_steps Some n N live E R A q = dia_steps n N live R A q
+over_steps mode.All n N live E R A q = box_steps n N live E R A q
+over_steps mode.Some n N live E R A q = dia_steps n N live R A q
 
 pub run-modal : (m : Model) (N R : ℕ) (e : Env) (live : List Fn) (o : Mode) (t : ℕ) (f : Form) (r : Count)
     → run (states m e) N R live (modal_form o t f) r
     ≡ and_then (run (states m e) N R live f r) (λ A q. over_steps o m.n N live (exist m) (related m t) A q)
-run-modal m N R e live All t f r = refl
-run-modal m N R e live Some t f r = refl
+run-modal m N R e live mode.All t f r = refl
+run-modal m N R e live mode.Some t f r = refl
 
 pub run_binder : (m : Model) (N R : ℕ) (e : Env) (live : List Fn) (x : Fix) (P : ℕ) (f : Form) (r : Count)
     → run (states m e) N R live (binder_form x P f) r
@@ -177,18 +189,19 @@ run_binder m N R e live Nu P f r = refl
 -- ---- a chain of steps
 
 -- a chain for the set C, after which c is counted in the book
-pub chain-evals : {n N : ℕ} {before after : Rows} {roots : List ℕ} {F : Fn} {c : Count} (fits : Bool) (o : Taken) (C : List Bool)
+pub chain-evals : {n N : ℕ} {before after : Rows} {roots : List ℕ} {F : Fn} {c : Count} (fits : Bool) (o : Result Taken Full)
+    (C : List Bool)
     → F ≡ fn_of n C
     → PairEvals n N before after roots fits F c (result (made_in o)) (count_in o)
     → Evals n N before after roots (settle C (cond fits (counted c) full_verdict)) (ended_in o)
 chain-evals {n} {after = after} {F = F} {c} fits o C e p = record { wf = p.wf; kept = p.kept; result = go fits o p.result }
   where
-    go : (fits : Bool) (o : Taken) → PairMatches n after fits F c (result (made_in o)) (count_in o)
+    go : (fits : Bool) (o : Result Taken Full) → PairMatches n after fits F c (result (made_in o)) (count_in o)
         → Matches n after (settle C (cond fits (counted c) full_verdict)) (ended_in o)
-    go true (taken.At a q) m = (subst (λ (G : Fn). Denotes (2 * n) after a G) e m.0, m.1)
-    go true taken.Full m = absurd m
-    go false (taken.At a q) m = absurd m
-    go false taken.Full m = tt
+    go true (Ok t) m = (subst (λ (G : Fn). Denotes (2 * n) after t.arrow G) e m.0, m.1)
+    go true (Err x) m = absurd m
+    go false (Ok t) m = absurd m
+    go false (Err x) m = tt
 
 -- NOT within V, of the set's function and of the set
 within_not_lem : (n : ℕ) (E A : List Bool) → within_not (fn_of n E) (fn_of n A) ≡ fn_of n (inter (2 ^ n) (compl (2 ^ n) A) E)
@@ -223,7 +236,7 @@ box-is n E Q A i =
     ∙ ap (fn_of n) (box_in (2 ^ n) E Q i A)
 
 module _ {n N : ℕ} (limit : ℕ) {before after : Rows} {roots : List ℕ} (fs : List Fn) where
-  module _ (Q : Pairs) (A : List Bool) (o : Taken) (q : Count) where
+  module _ (Q : Pairs) (A : List Bool) (o : Result Taken Full) (q : Count) where
     pub diamond-evals : PairEvals n N before after roots (fit limit (diamond_needs n fs (fn_of_pairs n Q) (fn_of n A)))
         (diamond_f n (fn_of_pairs n Q) (fn_of n A))
         (needing_all q (diamond_needs n fs (fn_of_pairs n Q) (fn_of n A))) (result (made_in o)) (count_in o)

@@ -1,4 +1,5 @@
 -- By the token at a place: the formula there, its parts, and what they have passed. Assumes nothing.
+use Rattle.std.specs.Prelude.{Option, Some}
 use mathlib.Core.Path.{◌≡◌, refl, sym, ap, ◌∙◌, subst}
 use mathlib.Core.Bool.{Bool, true, false, not, ◌&&◌, true≢false}
 use mathlib.Core.List.{List}
@@ -14,8 +15,6 @@ use Rattle.tokens.specs.declared.Mode.{Mode}
 use Rattle.tokens.specs.declared.Fix.{Fix}
 use Rattle.tokens.specs.declared.Token.{Token}
 use Rattle.tokens.specs.declared.Token.TheVariants.{Leaf as LeafToken, Not, Both, Modal, Binder}
-use Rattle.tokens.specs.declared.Lead.{Lead}
-use Rattle.tokens.specs.declared.Lead.TheVariants.{Is}
 use Rattle.formula.specs.Parse.{leaf_form, two_form, modal_form, binder_form}
 use Rattle.formula.specs.Checks.{filled, two_filled}
 use Rattle.formula.proofs.Steps.{is-not, is-modal, is_binder}
@@ -88,7 +87,7 @@ module _ {scope : List Bool} {regs rels : ℕ → Bool} where
 
 module _ {g : Grammar} {n : ℕ} {bs : List ℕ} {at depth : ℕ} {scope : List Bool}
     {regs rels : ℕ → Bool} {f : Form} {e : ℕ} (p : Part g n bs at depth scope regs rels f e)
-    {ld : Lead} (found : ld ≡ lead_at n g bs at) {t : Token} (is : ld ≡ Is t) where
+    {ld : Option Token} (found : ld ≡ lead_at n g bs at) {t : Token} (is : ld ≡ Some t) where
   pub leaf-named : {l : Leaf} → t ≡ LeafToken l → Named scope regs rels (leaf_form l)
   leaf-named leaf = subst (Named scope regs rels) (leaf_form_lem p.stands found is leaf) p.named
 

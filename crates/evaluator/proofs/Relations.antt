@@ -1,4 +1,5 @@
 -- Box and diamond of a value, over a relation. Assumes nothing.
+use Rattle.std.specs.Prelude.{Result}
 use mathlib.Core.Path.{◌≡◌, refl, sym, ap, ◌∙◌, subst, fun_ext}
 use mathlib.Core.Bool.{Bool, true}
 use mathlib.Core.List.Memᴰ.{head as here}
@@ -15,7 +16,7 @@ use Rattle.mucalculus.specs.Means.{related}
 use Rattle.mucalculus.specs.Exist.{Inside}
 use Rattle.mucalculus.proofs.Exist.{related-inside, related_same}
 use Rattle.tokens.specs.declared.Mode.{Mode}
-use Rattle.tokens.specs.declared.Mode.TheVariants.{All, Some}
+use Rattle.tokens.specs.declared.Mode.TheVariants as mode
 use Rattle.formula.specs.Parse.{modal_form}
 use Rattle.accounts.specs.declared.Count.{Count}
 use Rattle.layout.specs.Places.{VALID, FIRST_RELATION}
@@ -31,6 +32,7 @@ use Rattle.rows.specs.Used.{rows_of}
 use Rattle.rows.specs.Within.{valid_of}
 use Rattle.collect.specs.Lent.{live}
 use Rattle.table.specs.Make.{result}
+use Rattle.table.specs.declared.Full.{Full}
 use Rattle.counting.specs.Taken.{made_in, count_in}
 use Rattle.counting.specs.declared.Taken.{Taken}
 use Rattle.book.specs.States.{now_of, next_of}
@@ -51,9 +53,10 @@ use Rattle.modal.specs.declared.Limits.{Limits}
 use Rattle.modal.proofs.Chain.{alike_sym, held_alike, moved_trans}
 use Rattle.modal.specs.Chain.{Moved}
 use Rattle.modal.specs.Modal.{boxed_needs, boxed_f, Chained, ModalPre, BoxPre}
+use Rattle.evaluator.specs.Scene.{evaluated}
 use Rattle.evaluator.specs.Scene.{Scene, run_in, model_in, exist_in, Boxes, holds_rel, Ready, Answers, ended_in, from_taken, OverPost}
-use Rattle.evaluator.specs.declared.Evaluated.{Evaluated}
-use Rattle.evaluator.specs.declared.Evaluated.TheVariants.{Value}
+use Rattle.evaluator.specs.declared.Stopped.{Stopped}
+use Rattle.evaluator.specs.declared.Value.{Value}
 use Rattle.evaluator.proofs.Parts.{and_first, and_second}
 use Rattle.evaluator.proofs.State.{valid-root, valid-read, lent-arrows, word_root, filled-place}
 use Rattle.evaluator.proofs.Outcomes.{over_steps, run-modal, diamond-evals, box-evals}
@@ -70,14 +73,15 @@ box-asks {n} {W = W} {lent} v read p = record {
   modal = p;
 }
 
-pub box_read : {n N limit : ℕ} {W X : View} {lent : List ℕ} {t a : ℕ} {q : Count} {o : Taken} (v : ℕ) → v + 1 ≡ W.header VALID
+pub box_read : {n N limit : ℕ} {W X : View} {lent : List ℕ} {t a : ℕ} {q : Count} {o : Result Taken Full} (v : ℕ) → v + 1 ≡ W.header VALID
     → Boxes n N limit W X lent v t a q o → Boxes n N limit W X lent (valid_of W) t a q o
 box_read {n} {N} {limit} {W} {X} {lent} {t} {a} {q} {o} v read b =
     subst (λ (x : ℕ). Boxes n N limit W X lent x t a q o) (valid-read W v read) b
 
 module _ {L : Limits} {W X : View} {stack after places : List ℕ}
-    {held : ℕ} {count : Count} {σ : Scene} {f : Form} {e : ℕ} {r : Evaluated} (R : Ready L W stack places held σ)
-    (A : Answers true L W X stack after held count σ f e r) (z : length after ≡ length stack) {a k : ℕ} {q : Count} (is : r ≡ Value a k q)
+    {held : ℕ} {count : Count} {σ : Scene} {f : Form} {e : ℕ} {r : Result Value Stopped} (R : Ready L W stack places held σ)
+    (A : Answers true L W X stack after held count σ f e r) (z : length after ≡ length stack) {a k : ℕ} {q : Count}
+    (is : r ≡ evaluated a k q)
     (t : ℕ) (h : holds_rel σ t ≡ true) where
   R₁ : Ready L X after places held σ
   R₁ = value-ready R A z is
@@ -128,7 +132,7 @@ module _ {L : Limits} {W X : View} {stack after places : List ℕ}
       even = λ v w g. (value-is R A z is).same v ∙ fn_of-even L.bits (value_set R A z is) v w g ∙ sym ((value-is R A z is).same w);
     }
 
-    module _ (Y : View) (o : Taken) where
+    module _ (Y : View) (o : Result Taken Full) where
       -- a chain for F with these needs
       abbrev Chain : List ℕ → Fn → Type 0
       Chain needs F =
@@ -154,7 +158,7 @@ module _ {L : Limits} {W X : View} {stack after places : List ℕ}
           → Denotes (2 * L.bits) (rows_of X) a (fn_of L.bits C)
           → Evals L.bits L.rows (rows_of X) (rows_of Y) σ.roots
           (over_steps m L.bits L.limit σ.fns (exist_in L.bits σ) Q C q) (ended_in o)
-      over-evals All p C d =
+      over-evals mode.All p C d =
           let E = fn_of L.bits (exist_in L.bits σ) in
           let w = p.box σ.fns (held_alike (alike_sym R₁.roots) R₁.lives) in
           let w1 =
@@ -163,16 +167,16 @@ module _ {L : Limits} {W X : View} {stack after places : List ℕ}
           (boxed_f L.bits G (den (2 * L.bits) (rows_of X) x) (den (2 * L.bits) (rows_of X) a)) q o) (denoted R₁.valid) w in
           box-evals L.limit σ.fns Q C o q (exist_in L.bits σ) pairs_in
           (as_sets (λ S F. boxed_needs L.bits σ.fns E S F) (boxed_f L.bits E) C d w1)
-      over-evals Some p C d =
+      over-evals mode.Some p C d =
           diamond-evals L.limit σ.fns Q C o q
           (as_sets (λ Q F. diamond_needs L.bits σ.fns Q F) (diamond_f L.bits) C d
           (p σ.fns (held_alike (alike_sym R₁.roots) R₁.lives)))
 
       over-moved : (m : Mode) → OverPost m L.bits L.rows L.limit X Y (take held after) x a q o → Moved L.bits X Y
-      over-moved All p = (p.box σ.fns (held_alike (alike_sym R₁.roots) R₁.lives)).moved
-      over-moved Some p = (p σ.fns (held_alike (alike_sym R₁.roots) R₁.lives)).moved
+      over-moved mode.All p = (p.box σ.fns (held_alike (alike_sym R₁.roots) R₁.lives)).moved
+      over-moved mode.Some p = (p σ.fns (held_alike (alike_sym R₁.roots) R₁.lives)).moved
 
-      pub over-ends : (m : Mode) {r' : Evaluated} → OverPost m L.bits L.rows L.limit X Y (take held after) x a q o
+      pub over-ends : (m : Mode) {r' : Result Value Stopped} → OverPost m L.bits L.rows L.limit X Y (take held after) x a q o
           → r' ≡ from_taken k o
           → Answers true L W Y stack after held count σ (modal_form m t f) e r'
       over-ends m p is-r = answers-taken (modal_form m t f) k o (value-end R A z is) is-r (moved_trans A.moved (over-moved m p)) A.kept

@@ -1,4 +1,5 @@
 -- A binder's rounds. Assumes nothing.
+use Rattle.std.specs.Prelude.{Result, Err}
 use mathlib.Core.Path.{◌≡◌, refl, sym, ◌∙◌, subst}
 use mathlib.Core.Logic.{◌≢◌}
 use mathlib.Core.Bool.{Bool, true}
@@ -25,10 +26,12 @@ use Rattle.book.specs.Turns.{start_arrow}
 use Rattle.modal.specs.declared.Limits.{Limits}
 use Rattle.modal.specs.Chain.{Moved}
 use Rattle.modal.proofs.Chain.{moved_refl, moved_trans, base-wf}
+use Rattle.evaluator.specs.Scene.{evaluated}
 use Rattle.evaluator.specs.Scene.{stack_size, Scene, model_in, exist_in, Ready, ended_of, EndsAt, Answers, is_least}
 use Rattle.evaluator.proofs.Scene.{opened}
-use Rattle.evaluator.specs.declared.Evaluated.{Evaluated}
-use Rattle.evaluator.specs.declared.Evaluated.TheVariants.{Value, Spent}
+use Rattle.evaluator.specs.declared.Stopped.{Stopped}
+use Rattle.evaluator.specs.declared.Value.{Value}
+use Rattle.evaluator.specs.declared.Stopped.TheVariants as stopped
 use Rattle.evaluator.proofs.State.{still-below, ready-next, ready_open}
 use Rattle.evaluator.proofs.Outcomes.{Halts, halts_stops, halts_end, evals-value, run_binder}
 
@@ -62,7 +65,8 @@ module _ {L : Limits} {W : View} {stack places : List ℕ} {held : ℕ} {σ : Sc
       {count : Count} {x : Fix} {P : ℕ} {f : Form} {a : ℕ} {counted : Count}
       (T : Bound L W X stack after held count σ x P f a counted) where
     -- a round is wanted when R are counted
-    pub bind_out : (e : ℕ) → L.rounds ≤ counted.rounds → Answers true L W X stack after held count σ (binder_form x P f) e Spent
+    pub bind_out : (e : ℕ) → L.rounds ≤ counted.rounds
+        → Answers true L W X stack after held count σ (binder_form x P f) e (Err stopped.Spent)
     bind_out e l = record {
       moved = T.moved;
       kept = T.kept;
@@ -79,13 +83,13 @@ module _ {L : Limits} {W : View} {stack places : List ℕ} {held : ℕ} {σ : Sc
           T.turning.exists room P
 
       module _ {Y : View} {last : List ℕ}
-          {e : ℕ} {r : Evaluated}
+          {e : ℕ} {r : Result Value Stopped}
           (B : Answers true L X Y (set after held a) last (held + 1) (another counted) (opened L.bits σ P a T.turning.A) f e r)
           (more : counted.rounds < L.rounds) where
         below : take held last ≡ take held stack
         below = still-below held last after a B.kept ∙ T.kept
 
-        whole : {y : Evaluated} → EndsAt e y
+        whole : {y : Result Value Stopped} → EndsAt e y
             → Evals L.bits L.rows (rows_of W) (rows_of Y) σ.roots
             (loop L.rounds (body L σ P f) L.rounds (start (is_least x) (2 ^ L.bits) (exist_in L.bits σ)) count) (ended_of y)
             → Answers true L W Y stack last held count σ (binder_form x P f) e y
@@ -103,17 +107,17 @@ module _ {L : Limits} {W : View} {stack places : List ℕ} {held : ℕ} {σ : Sc
             (turn-stop L.bits L.rows L.rounds (exist_in L.bits σ) (body L σ P f) (body-good L σ P f) T.turning more
             (ended_of r) B.evals (halts_stops r s))
 
-        module _ {b k : ℕ} {q : Count} (is : r ≡ Value b k q) where
+        module _ {b k : ℕ} {q : Count} (is : r ≡ evaluated b k q) where
           value-round : Evals L.bits L.rows (rows_of X) (rows_of Y) (a ∷ σ.roots) (body L σ P f T.turning.A (another counted))
               (ends b q)
           value-round =
-              subst (λ (y : Evaluated). Evals L.bits L.rows (rows_of X) (rows_of Y) (a ∷ σ.roots)
+              subst (λ (y : Result Value Stopped). Evals L.bits L.rows (rows_of X) (rows_of Y) (a ∷ σ.roots)
               (body L σ P f T.turning.A (another counted)) (ended_of y)) is B.evals
 
           -- the same set: the binder ends with it
-          pub bind-ends : b ≡ a → Answers true L W Y stack last held count σ (binder_form x P f) e (Value b k q)
+          pub bind-ends : b ≡ a → Answers true L W Y stack last held count σ (binder_form x P f) e (evaluated b k q)
           bind-ends same =
-              whole {y = Value b k q} (subst (EndsAt e) is B.end)
+              whole {y = evaluated b k q} (subst (EndsAt e) is B.end)
               (turn_end L.bits L.rows L.rounds (exist_in L.bits σ) (body L σ P f) (body-good L σ P f) T.turning more
               value-round same)
 

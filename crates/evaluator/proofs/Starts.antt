@@ -1,6 +1,7 @@
 -- The start of an evaluation: all is forgotten, the stack is empty, no variable is open. Assumes nothing.
+use Rattle.std.specs.Prelude.{Some, None, Result, Ok, Err}
 use mathlib.Core.Path.{◌≡◌, refl, sym, ap, ◌∙◌, subst}
-use mathlib.Core.Logic.{⊎_elim, inl, inr}
+use mathlib.Core.Logic.{inl, inr}
 use mathlib.Core.Bool.{Bool, true, false, ◌&&◌, cond, true≢false}
 use mathlib.Core.List.{List, [], ◌++◌, append-nil}
 use mathlib.Core.Option.{Option, some}
@@ -20,7 +21,6 @@ use Rattle.tokens.specs.declared.Kind.{Kind}
 use Rattle.tokens.specs.declared.Kind.TheVariants.{Relation, Set, Valid}
 use Rattle.tokens.specs.declared.Grammar.{Grammar}
 use Rattle.tokens.specs.declared.Grammar.TheVariants.{Pairs, Runs}
-use Rattle.tokens.specs.declared.Reading.TheVariants.{Is as Reads, Unknown}
 use Rattle.formula.specs.Parse.{got, form_of, depth_limit, parse}
 use Rattle.formula.proofs.Accepted.{found}
 use Rattle.formula.proofs.Fits.{Fitting, fitting}
@@ -66,17 +66,19 @@ use Rattle.contract.proofs.Roots.{filled_root, root-filled}
 use Rattle.modal.specs.declared.Limits.{Limits}
 use Rattle.modal.specs.Chain.{Alike, Base, Moved, Ran}
 use Rattle.modal.proofs.Chain.{moved_trans, ran_stop, ran_value, ran_then}
+use Rattle.evaluator.specs.Scene.{evaluated}
 use Rattle.evaluator.specs.Scene.{stack_size, Scene, model_in, exist_in, holds_reg, holds_rel, Part, Ready, Answers, ended_of, EvalPre}
 use Rattle.evaluator.specs.Scene.{EvalPost}
 use Rattle.evaluator.specs.Whole.{start, no_places, book_in, SetPre, SetPost, within_f, WithinPre, WithinPost, of_pairs, PairsPre}
 use Rattle.evaluator.specs.Whole.{PairsPost, RelationPost}
 use Rattle.table.specs.Make.{result}
-use Rattle.counting.specs.Taken.{made_in, count_in}
+use Rattle.table.specs.declared.Full.{Full}
+use Rattle.counting.specs.Taken.{taken, ran_out, made_in, count_in}
 use Rattle.counting.specs.declared.Taken.{Taken}
-use Rattle.counting.specs.declared.Taken.TheVariants as taken
 use Rattle.evaluator.specs.declared.Context.{Context}
-use Rattle.evaluator.specs.declared.Evaluated.{Evaluated}
-use Rattle.evaluator.specs.declared.Evaluated.TheVariants.{Value, Full, Spent}
+use Rattle.evaluator.specs.declared.Stopped.{Stopped}
+use Rattle.evaluator.specs.declared.Value.{Value}
+use Rattle.evaluator.specs.declared.Stopped.TheVariants as stopped
 use Rattle.evaluator.proofs.State.{in_scope, ready-next}
 use Rattle.evaluator.proofs.Outcomes.{Halts}
 
@@ -190,14 +192,14 @@ grammar_for Set = Runs
 grammar_for Valid = Pairs
 
 -- a formula of bits is read as one of pairs, one of states as one of states and runs
-read_as : (n : ℕ) (bs : List ℕ) (k : Kind) (v : ℕ) (g : Grammar) {f : Form} {e : ℕ} → grammar_of k v ≡ Reads g
+read_as : (n : ℕ) (bs : List ℕ) (k : Kind) (v : ℕ) (g : Grammar) {f : Form} {e : ℕ} → grammar_of k v ≡ Some g
     → parse n g depth_limit bs 3 ≡ got f e → parse n (grammar_for k) depth_limit bs 3 ≡ got f e
 read_as n bs k v g {f} {e} known h = go k (eqb v 1) (eqb v 2) known
   where
-    by_grammar : {x : Grammar} → Reads x ≡ Reads g → parse n x depth_limit bs 3 ≡ got f e
+    by_grammar : {x : Grammar} → Some x ≡ Some g → parse n x depth_limit bs 3 ≡ got f e
     by_grammar {x} q = let same : x ≡ g = cc in subst (λ (y : Grammar). parse n y depth_limit bs 3 ≡ got f e) (sym same) h
 
-    go : (k : Kind) (a b : Bool) → cond a (first_of k) (cond b (second_of k) Unknown) ≡ Reads g
+    go : (k : Kind) (a b : Bool) → cond a (first_of k) (cond b (second_of k) None) ≡ Some g
         → parse n (grammar_for k) depth_limit bs 3 ≡ got f e
     go Relation true b q = by_grammar q
     go Relation false true q = let z : ◌≡◌ {A = ℕ} 0 1 = cc in absurd (omega arith)
@@ -240,7 +242,8 @@ module _ {g : Grammar} {L : Limits} {X : View} {stack bs : List ℕ} {c e : Cont
   pub asks_at : EvalPre g L X stack bs e → EvalPre g L X stack bs c
   asks_at P = subst (λ (d : Context). EvalPre g L X stack bs d) (sym i) P
 
-  pub ends_at : {Y : View} {after : List ℕ} {r : Evaluated} → EvalPost g L X Y stack after bs c r → EvalPost g L X Y stack after bs e r
+  pub ends_at : {Y : View} {after : List ℕ} {r : Result Value Stopped} → EvalPost g L X Y stack after bs c r
+      → EvalPost g L X Y stack after bs e r
   ends_at {Y} {after} {r} E = subst (λ (d : Context). EvalPost g L X Y stack after bs d r) i E
 
 -- ---- a set's formula
@@ -260,7 +263,7 @@ module _ {L : Limits} {W : View} {bs : List ℕ} (p : SetPre L W bs) {X : View} 
     part = whole_part L W bs p.bits Set p.passed;
   }
 
-  pub set-ends : {Y : View} {after : List ℕ} {r : Evaluated} → EvalPost Runs L X Y (replicate stack_size 0) after bs start r
+  pub set-ends : {Y : View} {after : List ℕ} {r : Result Value Stopped} → EvalPost Runs L X Y (replicate stack_size 0) after bs start r
       → SetPost L W Y bs r
   set-ends {Y} {after} {r} E =
       let g = whole L W bs p.bits Set p.passed in
@@ -289,18 +292,15 @@ module _ {L : Limits} {W : View} {bs : List ℕ} (p : SetPre L W bs) {X : View} 
 -- ---- a formula of pairs
 
 -- the answer without its place; a formula of pairs wants no round
-abbrev pub taken_of : Evaluated → Taken
-taken_of (Value a k c) = taken.At a c
-taken_of Full = taken.Full
-taken_of Spent = taken.Full
+abbrev pub taken_of : Result Value Stopped → Result Taken Full
+taken_of (Ok v) = taken v.arrow v.count
+taken_of (Err x) = ran_out
 
-halts_taken : (r : Evaluated) → Halts r → taken_of r ≡ taken.Full
-halts_taken (Value a k c) h = absurd (⊎_elim (λ x. omega arith) (λ x. omega arith) h)
-halts_taken Full h = refl
-halts_taken Spent h = refl
+halts_taken : (r : Result Value Stopped) → Halts r → taken_of r ≡ ran_out
+halts_taken r h = ap taken_of h.1
 
 -- what the run over pairs comes to is a chain of its steps
-pairs-chain : {n N : ℕ} {before after : Rows} {roots : List ℕ} (N' R : ℕ) (live : List Fn) (f : Form) (q : Count) (r : Evaluated)
+pairs-chain : {n N : ℕ} {before after : Rows} {roots : List ℕ} (N' R : ℕ) (live : List Fn) (f : Form) (q : Count) (r : Result Value Stopped)
     → EvalsBy (levels (pairs n)) n N before after roots (run (pairs n) N' R live f q) (ended_of r)
     → PairEvals n N before after roots (pairs_fit n N' live f) (pair_f n f) (pairs_count n live f q) (result (made_in (taken_of r)))
     (count_in (taken_of r))
@@ -313,18 +313,18 @@ pairs-chain {n} {after = after} N' R live f q r v =
           go (pairs_fit n N' live f) r (subst (λ (o : Outcome). MatchesBy (levels (pairs n)) n after o (ended_of r)) same v.result);
     }
   where
-    go : (fits : Bool) (r : Evaluated)
+    go : (fits : Bool) (r : Result Value Stopped)
         → MatchesBy (levels (pairs n)) n after (settle (points_of n f) (cond fits (counted (pairs_count n live f q)) full_verdict)) (ended_of r)
         → PairMatches n after fits (pair_f n f) (pairs_count n live f q) (result (made_in (taken_of r))) (count_in (taken_of r))
-    go true (Value a k c) m = (subst (λ (G : Fn). Denotes (2 * n) after a G) (points_value n f) m.0, m.1)
-    go true Full m = absurd m
-    go true Spent m = absurd m
-    go false (Value a k c) m = absurd m
-    go false Full m = tt
-    go false Spent m = absurd m
+    go true (Ok v) m = (subst (λ (G : Fn). Denotes (2 * n) after v.arrow G) (points_value n f) m.0, m.1)
+    go true (Err stopped.Full) m = absurd m
+    go true (Err stopped.Spent) m = absurd m
+    go false (Ok v) m = absurd m
+    go false (Err stopped.Full) m = tt
+    go false (Err stopped.Spent) m = absurd m
 
 -- the outcome of some steps for F, so much being counted in the book after them
-abbrev Chained : View → ℕ → ℕ → Rows → Rows → Bool → Fn → Count → Taken → Type 0
+abbrev Chained : View → ℕ → ℕ → Rows → Rows → Bool → Fn → Count → Result Taken Full → Type 0
 Chained W n N before after fits F c o = PairEvals n N before after (roots_of (seen_in W)) fits F c (result (made_in o)) (count_in o)
 
 module _ {L : Limits} {W : View} {bs : List ℕ} (p : PairsPre L W bs) {X : View} (f : Forgot W X) where
@@ -353,7 +353,7 @@ module _ {L : Limits} {W : View} {bs : List ℕ} (p : PairsPre L W bs) {X : View
     part = pairs-part p.kind p.is-pairs p.passed;
   }
 
-  module _ {Y : View} {after : List ℕ} {r : Evaluated} (E : EvalPost Pairs L X Y (replicate stack_size 0) after bs start r) where
+  module _ {Y : View} {after : List ℕ} {r : Result Value Stopped} (E : EvalPost Pairs L X Y (replicate stack_size 0) after bs start r) where
     answered : (k : Kind) (is : of_pairs k ≡ true) (passed : checks (book_in W) k bs ≡ 0)
         → Answers false L X Y (replicate stack_size 0) after 0 nothing (scene_in W) (whole L W bs p.bits k passed) (length bs) r
     answered k is passed = E.answers (scene_in W) (whole L W bs p.bits k passed) (length bs) ready₀ (pairs-part k is passed)
@@ -377,7 +377,7 @@ module _ {L : Limits} {W : View} {bs : List ℕ} (p : PairsPre L W bs) {X : View
         }
 
     -- from the limits' sizes and the words after forgetting to the table's own
-    own : (Z : View) (o : Taken) (fits : ℕ → Form → Bool) (F : ℕ → Form → Fn) (c : ℕ → Form → Count) (k : Kind)
+    own : (Z : View) (o : Result Taken Full) (fits : ℕ → Form → Bool) (F : ℕ → Form → Fn) (c : ℕ → Form → Count) (k : Kind)
         (passed : checks (book_in W) k bs ≡ 0)
         → Chained W L.bits L.rows (rows_of X) (rows_of Z) (fits L.bits (whole L W bs p.bits k passed))
         (F L.bits (whole L W bs p.bits k passed)) (c L.bits (whole L W bs p.bits k passed)) o
@@ -393,24 +393,25 @@ module _ {L : Limits} {W : View} {bs : List ℕ} (p : PairsPre L W bs) {X : View
         subst (λ (h : Form). Chained W (W.header BITS) W.rows (rows_of W) (rows_of Z) (fits (W.header BITS) h) (F (W.header BITS) h)
         (c (W.header BITS) h) o) (whole_is L W bs p.bits k passed) v3
 
-    pub pairs-ends : {o : Taken} → taken_of r ≡ o → PairsPost L W Y bs o
+    pub pairs-ends : {o : Result Taken Full} → taken_of r ≡ o → PairsPost L W Y bs o
     pairs-ends {o} is = record {
       sound = any.moved.sound;
       frame = op_trans (op_memo f.frame) any.moved.frame;
       evals = λ k i passed. let g = whole L W bs p.bits k passed in
           own Y o (λ n h. pairs_fit n L.limit (live_of (book_in W)) h) (λ n h. pair_f n h)
           (λ n h. pairs_count n (live_of (book_in W)) h nothing) k passed
-          (subst (λ (y : Taken). Chained W L.bits L.rows (rows_of X) (rows_of Y) (pairs_fit L.bits L.limit (live_of (book_in W)) g)
+          (subst (λ (y : Result Taken Full). Chained W L.bits L.rows (rows_of X) (rows_of Y)
+          (pairs_fit L.bits L.limit (live_of (book_in W)) g)
           (pair_f L.bits g) (pairs_count L.bits (live_of (book_in W)) g nothing) y) is (ran k i passed).evals);
     }
 
-    pub pairs_halts : Halts r → PairsPost L W Y bs taken.Full
+    pub pairs_halts : Halts r → PairsPost L W Y bs ran_out
     pairs_halts h = pairs-ends (halts_taken r h)
 
     -- ---- a relation's formula, and then the steps within V
 
     -- a chain for the whole
-    related : (Z : View) (o : Taken) → Moved L.bits X Z
+    related : (Z : View) (o : Result Taken Full) → Moved L.bits X Z
         → ((passed : checks (book_in W) Relation bs ≡ 0) → let g = whole L W bs p.bits Relation passed in
         let ks = pair_needs L.bits (live_of (book_in W)) g in
         let ws = within_needs L.bits (live_of (book_in W)) (fn_of L.bits (book_in W).valid) (pair_f L.bits g) in
@@ -433,10 +434,10 @@ module _ {L : Limits} {W : View} {bs : List ℕ} (p : PairsPre L W bs) {X : View
           (λ n h. relation_count n (live_of (book_in W)) (book_in W).valid h nothing) Relation passed v2;
     }
 
-    pub relation_halts : Halts r → RelationPost L W Y bs taken.Full
-    relation_halts h = related Y taken.Full any.moved (λ passed. ran_stop _ _ _ (halts_taken r h) (ran Relation refl passed))
+    pub relation_halts : Halts r → RelationPost L W Y bs ran_out
+    relation_halts h = related Y ran_out any.moved (λ passed. ran_stop _ _ _ (halts_taken r h) (ran Relation refl passed))
 
-    module _ {a j : ℕ} {q : Count} (is : r ≡ Value a j q) (z : length after ≡ length (replicate {A = ℕ} stack_size 0)) where
+    module _ {a j : ℕ} {q : Count} (is : r ≡ evaluated a j q) (z : length after ≡ length (replicate {A = ℕ} stack_size 0)) where
       ended : Ready L Y after no_places 0 (scene_in W)
       ended = ready-next ready₀ any.moved any.evals.kept after z any.kept
 
@@ -444,7 +445,7 @@ module _ {L : Limits} {W : View} {bs : List ℕ} (p : PairsPre L W bs) {X : View
       within-asks =
           record { scene = scene_in W; ready = ended; operand = (ran_value (ap taken_of is) (ran p.kind p.is-pairs p.passed)).arrow }
 
-      pub relation-ends : {Z : View} {o : Taken} → WithinPost L Y Z after a q o → RelationPost L W Z bs o
+      pub relation-ends : {Z : View} {o : Result Taken Full} → WithinPost L Y Z after a q o → RelationPost L W Z bs o
       relation-ends {Z} {o} w = related Z o (moved_trans any.moved (w.answers (scene_in W) ended).moved) (λ passed.
           let g = whole L W bs p.bits Relation passed in
           let S = fn_of L.bits (book_in W).valid in

@@ -1,6 +1,7 @@
 -- One law for each call and each return of the evaluator's functions. Assumes nothing.
+use Rattle.std.specs.Prelude.{Result, Ok, Err}
 use mathlib.Core.Path.{◌≡◌, refl, sym, ap, ◌∙◌, subst}
-use mathlib.Core.Logic.{⊎_elim, inl, inr}
+use mathlib.Core.Logic.{⊎_elim}
 use mathlib.Core.Bool.{Bool, true, false}
 use mathlib.Core.List.Memᴰ.{head as here}
 use mathlib.Core.List.Memᴰ.{tail as there}
@@ -26,7 +27,7 @@ use Rattle.layout.specs.View.{View}
 use Rattle.diagram.specs.Level.{Fn}
 use Rattle.diagram.specs.Rows.{Rows, Arrow, den}
 use Rattle.diagram.specs.Need.{step_need}
-use Rattle.diagram.specs.Post.{Result, Denotes}
+use Rattle.diagram.specs.Post.{Result as Answer, Denotes}
 use Rattle.diagram.proofs.Keep.{keeps_within, keeps_denotes}
 use Rattle.diagram.specs.Step.{StepPost}
 use Rattle.diagram.specs.Steps.{and_f, not_f}
@@ -38,9 +39,9 @@ use Rattle.collect.specs.Lent.{live}
 use Rattle.steps.specs.declared.Step.{Step}
 use Rattle.steps.specs.declared.Step.TheVariants as step
 use Rattle.steps.specs.Steps.{step_f, operands_of, Fits}
-use Rattle.counting.specs.Taken.{made_in, Counted}
+use Rattle.table.specs.declared.Full.{Full}
+use Rattle.counting.specs.Taken.{taken, ran_out, made_in, Counted}
 use Rattle.counting.specs.declared.Taken.{Taken}
-use Rattle.counting.specs.declared.Taken.TheVariants as taken
 use Rattle.book.specs.Bridge.{fn_of}
 use Rattle.book.specs.Held.{Held}
 use Rattle.book.proofs.Held.{denoted, held-arrow, held-push, Needed}
@@ -53,19 +54,22 @@ use Rattle.book.proofs.Follow.{evals-valid}
 use Rattle.modal.specs.declared.Limits.{Limits}
 use Rattle.modal.specs.Chain.{Alike, Moved}
 use Rattle.modal.proofs.Chain.{alike_cons, alike_sym, alike_once, step-roots, counted-roots, moved_trans, Took, took}
+use Rattle.evaluator.specs.Scene.{evaluated}
 use Rattle.evaluator.specs.Scene.{stack_size, Scene, model_in, over_in, value_in, run_in, exist_in, Ready, Part, ended_of, ended_in, EndsAt}
 use Rattle.evaluator.specs.Scene.{Answers, from_taken, join_step, LeafAnswers, LivePre, LivePost, JoinedTo, JoinedPost, ConfinedPre}
 use Rattle.evaluator.specs.Scene.{ConfinedTo, ConfinedPost}
 use Rattle.evaluator.proofs.Scene.{pushed}
-use Rattle.evaluator.specs.declared.Evaluated.{Evaluated}
-use Rattle.evaluator.specs.declared.Evaluated.TheVariants.{Value, Full, Spent}
+use Rattle.evaluator.specs.declared.Stopped.{Stopped}
+use Rattle.evaluator.specs.declared.Value.{Value}
+use Rattle.evaluator.specs.declared.Stopped.TheVariants as stopped
 use Rattle.evaluator.proofs.State.{valid-mem, valid-live, still-below, live-pre, ready-next, ready-push}
 use Rattle.evaluator.proofs.Outcomes.{Halts, halts_stops, halts_end, taken-ended, taken-end, evals-value, join_op, join_f, join-exact}
 use Rattle.evaluator.proofs.Outcomes.{step_by, not_by, run_join, run-neg, over_steps, run-modal}
 
 -- a part's answer that is no value is the answer of what goes on with its value
 pub answers-stop : {on_states : Bool} {L : Limits} {W X : View} {stack after : List ℕ}
-    {held : ℕ} {count : Count} {σ : Scene} {f : Form} {e : ℕ} {r : Evaluated} → Answers on_states L W X stack after held count σ f e r
+    {held : ℕ} {count : Count} {σ : Scene} {f : Form} {e : ℕ} {r : Result Value Stopped}
+    → Answers on_states L W X stack after held count σ f e r
     → Halts r
     → (h : Form) (e' : ℕ) (G : List Bool → Count → Outcome) → run_in on_states L σ h count ≡ and_then (run_in on_states L σ f count) G
     → Answers on_states L W X stack after held count σ h e' r
@@ -78,7 +82,7 @@ answers-stop {on_states} {L} {count = count} {σ = σ} {f = f} {r = r} A s h e' 
 
 -- a formula that is another one
 pub answers-same : {on_states : Bool} {L : Limits} {W X : View} {stack after : List ℕ}
-    {held : ℕ} {count : Count} {σ : Scene} {f g : Form} {e : ℕ} {r : Evaluated} → f ≡ g
+    {held : ℕ} {count : Count} {σ : Scene} {f g : Form} {e : ℕ} {r : Result Value Stopped} → f ≡ g
     → Answers on_states L W X stack after held count σ g e r
     → Answers on_states L W X stack after held count σ f e r
 answers-same {on_states} {L} {W} {X} {stack} {after} {held} {count} {σ} {e = e} {r = r} q A =
@@ -86,13 +90,15 @@ answers-same {on_states} {L} {W} {X} {stack} {after} {held} {count} {σ} {e = e}
 
 -- a step's answer after a value
 pub answers-taken : {on_states : Bool} {L : Limits} {W X : View} {stack after : List ℕ}
-    {held : ℕ} {count : Count} {σ : Scene} (f : Form) {e : ℕ} (k : ℕ) (o : Taken) {r : Evaluated} → k ≡ e → r ≡ from_taken k o
+    {held : ℕ} {count : Count} {σ : Scene} (f : Form) {e : ℕ} (k : ℕ) (o : Result Taken Full) {r : Result Value Stopped} → k ≡ e
+    → r ≡ from_taken k o
     → Moved L.bits W X
     → take held after ≡ take held stack
     → EvalsBy (value_in on_states L.bits σ) L.bits L.rows (rows_of W) (rows_of X) σ.roots (run_in on_states L σ f count)
     (ended_in o) → Answers on_states L W X stack after held count σ f e r
 answers-taken {on_states} {L} {W} {X} {stack} {after} {held} {count} {σ} f {e} k o {r} at-e is m s v =
-    subst (λ (x : Evaluated). Answers on_states L W X stack after held count σ f e x) (sym (is ∙ ap (λ (x : ℕ). from_taken x o) at-e))
+    subst (λ (x : Result Value Stopped). Answers on_states L W X stack after held count σ f e x)
+    (sym (is ∙ ap (λ (x : ℕ). from_taken x o) at-e))
     (record {
       moved = m;
       kept = s;
@@ -104,7 +110,8 @@ answers-taken {on_states} {L} {W} {X} {stack} {after} {held} {count} {σ} f {e} 
 
 -- a leaf's value or step
 pub eval-leaf : {on_states : Bool} {L : Limits} {W X : View} {stack : List ℕ}
-    {held : ℕ} {count : Count} {σ : Scene} {f : Form} (l : Leaf) {e k : ℕ} {o : Taken} {r : Evaluated} → f ≡ leaf_form l → e ≡ k
+    {held : ℕ} {count : Count} {σ : Scene} {f : Form} (l : Leaf) {e k : ℕ} {o : Result Taken Full} {r : Result Value Stopped}
+    → f ≡ leaf_form l → e ≡ k
     → LeafAnswers on_states L W X count σ (leaf_form l) o → r ≡ from_taken k o → Answers on_states L W X stack stack held count σ f e r
 eval-leaf l {k = k} {o = o} q at-e A is = answers-same q (answers-taken (leaf_form l) k o (sym at-e) is A.moved refl A.evals)
 
@@ -121,7 +128,8 @@ alike_swap x y zs = record { to = λ a h. go x y a h; from = λ a h. go y x a h 
 -- ---- one step
 
 -- a step over some roots is one over others with the same members
-pub took_alike : {n N limit : ℕ} {W X : View} {xs ys : List ℕ} {q : Count} {o : Taken} {F : Fn} → ((a : ℕ) → Mem a ys → Arrow (rows_of W) a)
+pub took_alike : {n N limit : ℕ} {W X : View} {xs ys : List ℕ} {q : Count} {o : Result Taken Full} {F : Fn} → ((a : ℕ) → Mem a ys
+    → Arrow (rows_of W) a)
     → Alike xs ys → Took n N limit W X xs q o F → Took n N limit W X ys q o F
 took_alike {n} {W = W} {q = q} {o} {F} u s t = record {
   moved = t.moved;
@@ -130,31 +138,34 @@ took_alike {n} {W = W} {q = q} {o} {F} u s t = record {
 }
 
 -- a step whose answer is known
-pub took_at : {n N limit : ℕ} {W X : View} {roots : List ℕ} {q : Count} {o u : Taken} {F : Fn} → o ≡ u → Took n N limit W X roots q o F
+pub took_at : {n N limit : ℕ} {W X : View} {roots : List ℕ} {q : Count} {o u : Result Taken Full} {F : Fn} → o ≡ u
+    → Took n N limit W X roots q o F
     → Took n N limit W X roots q u F
-took_at {n} {N} {limit} {W} {X} {roots} {q} {F = F} e t = subst (λ (x : Taken). Took n N limit W X roots q x F) e t
+took_at {n} {N} {limit} {W} {X} {roots} {q} {F = F} e t = subst (λ (x : Result Taken Full). Took n N limit W X roots q x F) e t
 
 -- a step in a scene: its roots are its operands and the scene's
-pub took_roots : {L : Limits} {W X : View} {stack places : List ℕ} {held : ℕ} {σ : Scene} {q : Count} {o : Taken} {F : Fn} (ops : List ℕ)
+pub took_roots : {L : Limits} {W X : View} {stack places : List ℕ} {held : ℕ} {σ : Scene} {q : Count} {o : Result Taken Full} {F : Fn}
+    (ops : List ℕ)
     → Ready L W stack places held σ
     → ((a : ℕ) → Mem a ops → Arrow (rows_of W) a) → Took L.bits L.rows L.limit W X (ops ++ live W (take held stack)) q o F
     → Took L.bits L.rows L.limit W X (ops ++ σ.roots) q o F
 took_roots ops R u t = took_alike (λ a h. ⊎_elim (u a) (held-arrow R.lives a) (append_cases ops h)) (alike_append ops R.roots) t
 
 -- what holds of a step's answer and need, holds of what was taken
-pub took_evals : {n N limit : ℕ} {W X : View} {roots : List ℕ} {q : Count} {o : Taken} {F : Fn} → Took n N limit W X roots q o F
+pub took_evals : {n N limit : ℕ} {W X : View} {roots : List ℕ} {q : Count} {o : Result Taken Full} {F : Fn} → Took n N limit W X roots q o F
     → {lv : List Bool → Fn} {before after : Rows} {kept : List ℕ} {u : Outcome}
-    → ((answer : Result) → StepPost (2 * n) N limit (rows_of W) (rows_of X) roots answer F → (k : ℕ)
+    → ((answer : Answer) → StepPost (2 * n) N limit (rows_of W) (rows_of X) roots answer F → (k : ℕ)
     → Needed (2 * n) (rows_of W) roots F answer k → EvalsBy lv n N before after kept u (ended_by answer (needing q k)))
     → EvalsBy lv n N before after kept u (ended_in o)
 took_evals {n} {N} {limit} {W} {X} {roots} {q} {o} {F} t {lv} {before} {after} {kept} {u} law = go o t.post t.count
   where
-    go : (o : Taken) → StepPost (2 * n) N limit (rows_of W) (rows_of X) roots (result (made_in o)) F → Counted (2 * n) (rows_of W) roots F q o
+    go : (o : Result Taken Full) → StepPost (2 * n) N limit (rows_of W) (rows_of X) roots (result (made_in o)) F
+        → Counted (2 * n) (rows_of W) roots F q o
         → EvalsBy lv n N before after kept u (ended_in o)
-    go (taken.At a c) p e =
-        subst (λ (x : Count). EvalsBy lv n N before after kept u (ends a x)) (sym e)
-        (law (result (made_in (taken.At a c))) p (step_need (2 * n) (map (den (2 * n) (rows_of W)) roots) F) refl)
-    go taken.Full p e = law (result (made_in taken.Full)) p 0 tt
+    go (Ok t) p e =
+        subst (λ (x : Count). EvalsBy lv n N before after kept u (ends t.arrow x)) (sym e)
+        (law (result (made_in (Ok t))) p (step_need (2 * n) (map (den (2 * n) (rows_of W)) roots) F) refl)
+    go (Err x) p e = law (result (made_in ran_out)) p 0 tt
 
 pub one-arrow : (rows : Rows) (a : ℕ) → Arrow rows a → (b : ℕ) → Mem b (a ∷ []) → Arrow rows b
 one-arrow rows a u b h = ⊎_elim (λ e. subst (Arrow rows) (sym e) u) (λ i. absurd (mem-nil i)) (mem-cases h)
@@ -163,7 +174,7 @@ two-arrows : (rows : Rows) (a c : ℕ) → Arrow rows a → Arrow rows c → (b 
 two-arrows rows a c u v b h = ⊎_elim (λ e. subst (Arrow rows) (sym e) u) (one-arrow rows c v b) (mem-cases h)
 
 -- AND with V, whose arrow is a root
-pub took_within : {L : Limits} {W X : View} {stack places : List ℕ} {held : ℕ} {σ : Scene} {q : Count} {o : Taken} {b x : ℕ}
+pub took_within : {L : Limits} {W X : View} {stack places : List ℕ} {held : ℕ} {σ : Scene} {q : Count} {o : Result Taken Full} {b x : ℕ}
     → Ready L W stack places held σ → Arrow (rows_of W) b → Arrow (rows_of W) x → x ≡ valid_of W
     → Took L.bits L.rows L.limit W X (b ∷ x ∷ live W (take held stack)) q o
     (and_f (den (2 * L.bits) (rows_of W) b) (den (2 * L.bits) (rows_of W) x))
@@ -182,7 +193,8 @@ pub join-fits : (m : ℕ) (rows : Rows) (j : Join) (a b : ℕ) → Arrow rows a 
 join-fits m rows And a b u v = (u, v)
 join-fits m rows Or a b u v = (u, v)
 
-pub took_join : {L : Limits} {W X : View} {stack places : List ℕ} {held : ℕ} {σ : Scene} {q : Count} {o : Taken} {a b : ℕ} {s : Step}
+pub took_join : {L : Limits} {W X : View} {stack places : List ℕ} {held : ℕ} {σ : Scene} {q : Count} {o : Result Taken Full} {a b : ℕ}
+    {s : Step}
     → Ready L W stack places held σ → (j : Join) → s ≡ join_step j a b
     → Arrow (rows_of W) a → Arrow (rows_of W) b
     → Took L.bits L.rows L.limit W X (operands_of s ++ live W (take held stack)) q o (step_f (2 * L.bits) (rows_of W) s)
@@ -210,7 +222,8 @@ took_join {L} {W} {X} {stack} {places} {held} {σ} {q} {o} {a} {b} R j e u v t =
 -- ---- a part that is no value
 
 module _ {on_states : Bool} {L : Limits} {W X : View} {stack after : List ℕ}
-    {held : ℕ} {count : Count} {σ : Scene} {f : Form} {e : ℕ} {r : Evaluated} (A : Answers on_states L W X stack after held count σ f e r)
+    {held : ℕ} {count : Count} {σ : Scene} {f : Form} {e : ℕ} {r : Result Value Stopped}
+    (A : Answers on_states L W X stack after held count σ f e r)
     (s : Halts r) where
   pub negate_stops : Answers on_states L W X stack after held count σ (neg f) e r
   negate_stops =
@@ -221,7 +234,8 @@ module _ {on_states : Bool} {L : Limits} {W X : View} {stack after : List ℕ}
   first_stops j g e' =
       answers-stop A s (join_form j f g) e' _ (run_join on_states (model_in L.bits σ) σ.env L.limit L.rounds σ.fns j f g count)
 
-pub mode_stops : {L : Limits} {W X : View} {stack after : List ℕ} {held : ℕ} {count : Count} {σ : Scene} {f : Form} {e : ℕ} {r : Evaluated}
+pub mode_stops : {L : Limits} {W X : View} {stack after : List ℕ} {held : ℕ} {count : Count} {σ : Scene} {f : Form} {e : ℕ}
+    {r : Result Value Stopped}
     → Answers true L W X stack after held count σ f e r → Halts r
     → (m : Mode) (t : ℕ) → Answers true L W X stack after held count σ (modal_form m t f) e r
 mode_stops {L} {count = count} {σ = σ} {f = f} {e} A s m t =
@@ -232,7 +246,7 @@ mode_stops {L} {count = count} {σ = σ} {f = f} {e} A s m t =
 -- ---- a step's result, and over states AND with V
 
 module _ {L : Limits} {W : View} {stack places : List ℕ} {held : ℕ} {σ : Scene} (R : Ready L W stack places held σ)
-    {X : View} {q : Count} {o : Taken} {ys : List ℕ} {F : Fn}
+    {X : View} {q : Count} {o : Result Taken Full} {ys : List ℕ} {F : Fn}
     (w : Within σ.roots ys) (t : Took L.bits L.rows L.limit W X ys q o F) where
   first-ready : Ready L X stack places held σ
   first-ready = ready-next R t.moved (keeps_within w t.post.kept) stack refl refl
@@ -251,23 +265,24 @@ module _ {L : Limits} {W : View} {stack places : List ℕ} {held : ℕ} {σ : Sc
 
 -- the outcome of a step for the set B after which q is counted, and of what follows it
 pub record Confines (on_states : Bool) (L : Limits) (W : View) (σ : Scene) (operands : List Fn) (B : List Bool)
-    (q : Count) (Z : View) (v : Taken) : Type 0 where
+    (q : Count) (Z : View) (v : Result Taken Full) : Type 0 where
   pub moved : Moved L.bits W Z
   pub evals : EvalsBy (value_in on_states L.bits σ) L.bits L.rows (rows_of W) (rows_of Z) σ.roots
       (step_by on_states (model_in L.bits σ) σ.env L.limit σ.fns operands B q) (ended_in v)
 
-confined-to : {on_states : Bool} {L : Limits} {W X Y : View} {σ : Scene} {operands : List Fn} {B : List Bool} {q : Count} {u v : Taken}
+confined-to : {on_states : Bool} {L : Limits} {W X Y : View} {σ : Scene} {operands : List Fn} {B : List Bool} {q : Count}
+    {u v : Result Taken Full}
     → (Y ≡ X) × (u ≡ v) → Confines on_states L W σ operands B q X v
     → Confines on_states L W σ operands B q Y u
 confined-to {on_states} {L} {W} {X} {σ = σ} {operands} {B} {q} {u} i c =
     subst (λ (Z : View). Confines on_states L W σ operands B q Z u) (sym i.0)
-    (subst (λ (y : Taken). Confines on_states L W σ operands B q X y) (sym i.1) c)
+    (subst (λ (y : Result Taken Full). Confines on_states L W σ operands B q X y) (sym i.1) c)
 
 module _ {L : Limits} {W : View} {stack places : List ℕ} {held : ℕ} {σ : Scene} (R : Ready L W stack places held σ)
     {X : View} {q : Count} {ys : List ℕ} {F : Fn}
     (w : Within σ.roots ys) {operands : List Fn} (h : Held (2 * L.bits) (rows_of W) ys operands) (B : List Bool) where
-  confined_out : (on_states : Bool) → F ≡ value_in on_states L.bits σ B → Took L.bits L.rows L.limit W X ys q taken.Full F
-      → Confines on_states L W σ operands B q X taken.Full
+  confined_out : (on_states : Bool) → F ≡ value_in on_states L.bits σ B → Took L.bits L.rows L.limit W X ys q ran_out F
+      → Confines on_states L W σ operands B q X ran_out
   confined_out on_states e t = record {
     moved = t.moved;
     evals =
@@ -277,8 +292,8 @@ module _ {L : Limits} {W : View} {stack places : List ℕ} {held : ℕ} {σ : Sc
 
   module _ {x : ℕ} {p : Count} where
     -- pairs are of all states
-    confined-pairs : F ≡ value_in false L.bits σ B → Took L.bits L.rows L.limit W X ys q (taken.At x p) F
-        → Confines false L W σ operands B q X (taken.At x p)
+    confined-pairs : F ≡ value_in false L.bits σ B → Took L.bits L.rows L.limit W X ys q (taken x p) F
+        → Confines false L W σ operands B q X (taken x p)
     confined-pairs e t = record {
       moved = t.moved;
       evals =
@@ -288,8 +303,8 @@ module _ {L : Limits} {W : View} {stack places : List ℕ} {held : ℕ} {σ : Sc
     }
 
     -- states are those of V
-    confined-states : {Y : View} {u : Taken} → F ≡ value_in true L.bits σ B
-        → Took L.bits L.rows L.limit W X ys q (taken.At x p) F → LivePost L X Y stack held (step.And x (valid_of X)) p u
+    confined-states : {Y : View} {u : Result Taken Full} → F ≡ value_in true L.bits σ B
+        → Took L.bits L.rows L.limit W X ys q (taken x p) F → LivePost L X Y stack held (step.And x (valid_of X)) p u
         → Confines true L W σ operands B q Y u
     confined-states {Y} {u} e t s =
         let R1 = first-ready R w t in
@@ -311,7 +326,7 @@ module _ {L : Limits} {W : View} {stack places : List ℕ} {held : ℕ} {σ : Sc
         }
       where
         -- V's word is the same before and after the first step
-        valid-at : Took L.bits L.rows L.limit W X ys q (taken.At x p) F
+        valid-at : Took L.bits L.rows L.limit W X ys q (taken x p) F
             → Took L.bits L.rows L.limit X Y (x ∷ σ.roots) p u
             (and_f (den (2 * L.bits) (rows_of X) x) (den (2 * L.bits) (rows_of X) (valid_of X)))
             → Took L.bits L.rows L.limit X Y (x ∷ σ.roots) p u
@@ -323,28 +338,29 @@ module _ {L : Limits} {W : View} {stack places : List ℕ} {held : ℕ} {σ : Sc
             subst (λ (y : ℕ). Took L.bits L.rows L.limit X Y (x ∷ σ.roots) p u
             (and_f (den (2 * L.bits) (rows_of X) x) (den (2 * L.bits) (rows_of X) y))) same-arrow t3
 
-  pub confined-ends : {on_states : Bool} {o : Taken} → F ≡ value_in on_states L.bits σ B → Took L.bits L.rows L.limit W X ys q o F
-      → {Y : View} {u : Taken} → ConfinedPost on_states L X Y stack held o u
+  pub confined-ends : {on_states : Bool} {o : Result Taken Full} → F ≡ value_in on_states L.bits σ B
+      → Took L.bits L.rows L.limit W X ys q o F
+      → {Y : View} {u : Result Taken Full} → ConfinedPost on_states L X Y stack held o u
       → Confines on_states L W σ operands B q Y u
   confined-ends {on_states} {o} e t {Y} {u} c = go on_states o e t c.to
     where
-      go : (on_states : Bool) (o : Taken) → F ≡ value_in on_states L.bits σ B → Took L.bits L.rows L.limit W X ys q o F
+      go : (on_states : Bool) (o : Result Taken Full) → F ≡ value_in on_states L.bits σ B → Took L.bits L.rows L.limit W X ys q o F
           → ConfinedTo on_states L X Y stack held o u → Confines on_states L W σ operands B q Y u
-      go true (taken.At x p) e t c = confined-states e t c
-      go false (taken.At x p) e t c = confined-to c (confined-pairs e t)
-      go true taken.Full e t c = confined-to c (confined_out true e t)
-      go false taken.Full e t c = confined-to c (confined_out false e t)
+      go true (Ok o) e t c = confined-states e t c
+      go false (Ok o) e t c = confined-to c (confined-pairs e t)
+      go true (Err x) e t c = confined-to c (confined_out true e t)
+      go false (Err x) e t c = confined-to c (confined_out false e t)
 
 -- ---- after a part's value
 
 module _ {on_states : Bool} {L : Limits} {W X : View} {stack after places : List ℕ}
-    {held : ℕ} {count : Count} {σ : Scene} {f : Form} {e : ℕ} {r : Evaluated} (R : Ready L W stack places held σ)
+    {held : ℕ} {count : Count} {σ : Scene} {f : Form} {e : ℕ} {r : Result Value Stopped} (R : Ready L W stack places held σ)
     (A : Answers on_states L W X stack after held count σ f e r) (z : length after ≡ length stack)
-    {a k : ℕ} {q : Count} (is : r ≡ Value a k q) where
+    {a k : ℕ} {q : Count} (is : r ≡ evaluated a k q) where
   pub value-evals : EvalsBy (value_in on_states L.bits σ) L.bits L.rows (rows_of W) (rows_of X) σ.roots (run_in on_states L σ f count)
       (ends a q)
   value-evals =
-      subst (λ (x : Evaluated). EvalsBy (value_in on_states L.bits σ) L.bits L.rows (rows_of W) (rows_of X) σ.roots
+      subst (λ (x : Result Value Stopped). EvalsBy (value_in on_states L.bits σ) L.bits L.rows (rows_of W) (rows_of X) σ.roots
       (run_in on_states L σ f count) (ended_of x)) is A.evals
 
   pub value-end : k ≡ e
@@ -370,7 +386,7 @@ module _ {on_states : Bool} {L : Limits} {W X : View} {stack after places : List
   pub negate-asks : LivePre L X after held (step.Not a)
   negate-asks = live-pre value-ready value-is.arrow
 
-  module _ {Y : View} {o : Taken} (p : LivePost L X Y after held (step.Not a) q o) where
+  module _ {Y : View} {o : Result Taken Full} (p : LivePost L X Y after held (step.Not a) q o) where
     negate_took : Took L.bits L.rows L.limit X Y (a ∷ σ.roots) q o (not_f (den (2 * L.bits) (rows_of X) a))
     negate_took =
         took_roots (a ∷ []) value-ready (one-arrow (rows_of X) a value-is.arrow)
@@ -379,7 +395,7 @@ module _ {on_states : Bool} {L : Limits} {W X : View} {stack after places : List
     pub negate-confined : ConfinedPre L Y after held o
     negate-confined = confined-asks value-ready (λ x i. there i) negate_took p
 
-    module _ {Z : View} {u : Taken} (s : ConfinedPost on_states L Y Z after held o u) where
+    module _ {Z : View} {u : Result Taken Full} (s : ConfinedPost on_states L Y Z after held o u) where
       -- whatever set the value's arrow denotes
       negated : (C : List Bool) → Denotes (2 * L.bits) (rows_of X) a (value_in on_states L.bits σ C)
           → Confines on_states L X σ (value_in on_states L.bits σ C ∷ σ.fns) (compl (size_of (over_in on_states L.bits σ)) C) q Z u
@@ -387,7 +403,7 @@ module _ {on_states : Bool} {L : Limits} {W X : View} {stack after places : List
           confined-ends value-ready (λ x i. there i) (held-push value-ready.lives d) (compl (size_of (over_in on_states L.bits σ)) C)
           (ap not_f (denoted d) ∙ sym (levels-not (over_in on_states L.bits σ) C)) negate_took s
 
-      pub negate-ends : {r' : Evaluated} → r' ≡ from_taken k u → Answers on_states L W Z stack after held count σ (neg f) e r'
+      pub negate-ends : {r' : Result Value Stopped} → r' ≡ from_taken k u → Answers on_states L W Z stack after held count σ (neg f) e r'
       negate-ends is-r = answers-taken (neg f) k u value-end is-r (moved_trans A.moved (negated value_set value-is).moved) A.kept
           (evals-same (sym (run-neg on_states (model_in L.bits σ) σ.env L.limit L.rounds σ.fns f count))
           (evals_then L.bits L.rows (run_in on_states L σ f count)
@@ -408,7 +424,7 @@ module _ {on_states : Bool} {L : Limits} {W X : View} {stack after places : List
     both-ready C d = ready-push value-ready a (value_in on_states L.bits σ C) d room
 
     -- what the second part's evaluation gives, whatever set the first one's arrow denotes
-    module _ {Y : View} {last : List ℕ} {g : Form} {e' : ℕ} {r' : Evaluated} (z' : length last ≡ length after)
+    module _ {Y : View} {last : List ℕ} {g : Form} {e' : ℕ} {r' : Result Value Stopped} (z' : length last ≡ length after)
         (B : (C : List Bool) → Denotes (2 * L.bits) (rows_of X) a (value_in on_states L.bits σ C)
         → Answers on_states L X Y (set after held a) last (held + 1) q (pushed σ a (value_in on_states L.bits σ C)) g e' r') where
       B₀ : Answers on_states L X Y (set after held a) last (held + 1) q (pushed σ a (value_in on_states L.bits σ value_set)) g e' r'
@@ -429,12 +445,12 @@ module _ {on_states : Bool} {L : Limits} {W X : View} {stack after places : List
         end = halts_end e' r' s;
       }
 
-      module _ {b k' : ℕ} {q' : Count} (is' : r' ≡ Value b k' q') where
+      module _ {b k' : ℕ} {q' : Count} (is' : r' ≡ evaluated b k' q') where
         second-evals : (C : List Bool) → Denotes (2 * L.bits) (rows_of X) a (value_in on_states L.bits σ C)
             → EvalsBy (value_in on_states L.bits σ) L.bits L.rows (rows_of X) (rows_of Y) (a ∷ σ.roots)
             (run_in on_states L (pushed σ a (value_in on_states L.bits σ C)) g q) (ends b q')
         second-evals C d =
-            subst (λ (x : Evaluated). EvalsBy (value_in on_states L.bits σ) L.bits L.rows (rows_of X) (rows_of Y) (a ∷ σ.roots)
+            subst (λ (x : Result Value Stopped). EvalsBy (value_in on_states L.bits σ) L.bits L.rows (rows_of X) (rows_of Y) (a ∷ σ.roots)
             (run_in on_states L (pushed σ a (value_in on_states L.bits σ C)) g q) (ended_of x)) is' (B C d).evals
 
         first-arrow : Arrow (rows_of Y) a
@@ -451,7 +467,7 @@ module _ {on_states : Bool} {L : Limits} {W X : View} {stack after places : List
             live-pre both-state
             (subst (Fits (2 * L.bits) (rows_of Y)) (sym e) (join-fits (2 * L.bits) (rows_of Y) j a b first-arrow second-arrow))
 
-        pub both_ends : (j : Join) {s : Step} → s ≡ join_step j a b → {Z : View} {o : Taken} {r'' : Evaluated}
+        pub both_ends : (j : Join) {s : Step} → s ≡ join_step j a b → {Z : View} {o : Result Taken Full} {r'' : Result Value Stopped}
             → LivePost L Y Z last held s q' o
             → r'' ≡ from_taken k' o → Answers on_states L W Z stack last held count σ (join_form j f g) e' r''
         both_ends j {s} e {Z} {o} p is-r =
@@ -465,16 +481,17 @@ module _ {on_states : Bool} {L : Limits} {W X : View} {stack after places : List
             (λ C p. run_in on_states L (pushed σ a (value_in on_states L.bits σ C)) g p) value-evals second-evals)))
 
       -- the parts joined
-      pub both-joined : (j : Join) {Z : View} {r'' : Evaluated} → JoinedPost L Y Z last held j a r' r''
+      pub both-joined : (j : Join) {Z : View} {r'' : Result Value Stopped} → JoinedPost L Y Z last held j a r' r''
           → Answers on_states L W Z stack last held count σ (join_form j f g) e' r''
       both-joined j {Z} {r''} J = go r' refl J.joins
         where
-          stopped : Halts r' → Z ≡ Y → r'' ≡ r' → Answers on_states L W Z stack last held count σ (join_form j f g) e' r''
-          stopped s u v = subst (λ (U : View). Answers on_states L W U stack last held count σ (join_form j f g) e' r'') (sym u)
-              (subst (λ (x : Evaluated). Answers on_states L W Y stack last held count σ (join_form j f g) e' x) (sym v) (both_stops j s))
+          halted : Halts r' → Z ≡ Y → r'' ≡ r' → Answers on_states L W Z stack last held count σ (join_form j f g) e' r''
+          halted s u v = subst (λ (U : View). Answers on_states L W U stack last held count σ (join_form j f g) e' r'') (sym u)
+              (subst (λ (x : Result Value Stopped). Answers on_states L W Y stack last held count σ (join_form j f g) e' x) (sym v)
+              (both_stops j s))
 
-          go : (x : Evaluated) → r' ≡ x → JoinedTo L Y Z last held j a x r''
+          go : (x : Result Value Stopped) → r' ≡ x → JoinedTo L Y Z last held j a x r''
               → Answers on_states L W Z stack last held count σ (join_form j f g) e' r''
-          go (Value b k' q') is' w = both_ends is' j refl w.1 w.2
-          go Full is' w = stopped (subst Halts (sym is') (inl refl)) w.0 (w.1 ∙ sym is')
-          go Spent is' w = stopped (subst Halts (sym is') (inr refl)) w.0 (w.1 ∙ sym is')
+          go (Ok v) is' w = both_ends is' j refl w.1 w.2
+          go (Err stopped.Full) is' w = halted (_, is') w.0 (w.1 ∙ sym is')
+          go (Err stopped.Spent) is' w = halted (_, is') w.0 (w.1 ∙ sym is')

@@ -1,4 +1,5 @@
 -- By the token at a place: the formula there and its parts, in either grammar. Assumes nothing.
+use Rattle.std.specs.Prelude.{Option, Some, None}
 use mathlib.Core.Path.{◌≡◌, refl, sym, ap, ◌∙◌}
 use mathlib.Core.Bool.{true, true≢false}
 use mathlib.Core.List.{List}
@@ -13,8 +14,6 @@ use Rattle.tokens.specs.declared.Leaf.{Leaf}
 use Rattle.tokens.specs.declared.Two.{Two}
 use Rattle.tokens.specs.declared.Token.{Token}
 use Rattle.tokens.specs.declared.Token.TheVariants.{Leaf as LeafToken, Both}
-use Rattle.tokens.specs.declared.Lead.{Lead}
-use Rattle.tokens.specs.declared.Lead.TheVariants.{Is, Bad}
 use Rattle.formula.specs.Parse.{leaf_form, two_form, Got, fails, got, is_formula, form_of, parse}
 use Rattle.formula.proofs.Parse.{end_of}
 use Rattle.formula.proofs.Steps.{Unary, lead_inside}
@@ -32,16 +31,16 @@ module _ {n : ℕ} {g : Grammar} {bs : List ℕ} {at depth : ℕ} {f : Form} {e 
   pub read-depth : 0 < depth
   read-depth = let h = some-depth n g depth bs at whole in omega arith
 
-  module _ {ld : Lead} (found : ld ≡ lead_at n g bs at) where
-    pub read-token : ld ≡ Bad → ⊥
+  module _ {ld : Option Token} (found : ld ≡ lead_at n g bs at) where
+    pub read-token : ld ≡ None → ⊥
     read-token = some-token n g depth bs at whole found
 
-    module _ {t : Token} (is : ld ≡ Is t) where
+    module _ {t : Token} (is : ld ≡ Some t) where
       pub read-inside : at < length bs
       read-inside = lead_inside n g bs at (sym found ∙ is)
 
       pub read-allowed : {u : Token} → t ≡ u → allowed u n g ≡ true
-      read-allowed one = (lead_read n g bs at (sym found ∙ is ∙ ap Is one)).taken-by
+      read-allowed one = (lead_read n g bs at (sym found ∙ is ∙ ap Some one)).taken-by
 
       -- a leaf
       module _ {l : Leaf} (leaf : t ≡ LeafToken l) where

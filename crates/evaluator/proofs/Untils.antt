@@ -1,5 +1,6 @@
 -- Until, round by round: what each of its functions asks, and what its answers are made of; a round is one of the formula written with a
 -- binder, whose laws are those of AND, OR, box, diamond and mu. Assumes nothing.
+use Rattle.std.specs.Prelude.{Option, Some, None, Result}
 use mathlib.Core.Path.{◌≡◌, refl, sym, ap, ◌∙◌, subst}
 use mathlib.Core.Logic.{inr}
 use mathlib.Core.Bool.{Bool, true, false}
@@ -17,14 +18,13 @@ use Rattle.mucalculus.specs.Written.{absent, goes, written}
 use Rattle.mucalculus.proofs.Written.{put-here}
 use Rattle.tokens.specs.declared.Grammar.TheVariants.{Runs}
 use Rattle.tokens.specs.declared.Mode.{Mode}
-use Rattle.tokens.specs.declared.Mode.TheVariants.{All, Some}
+use Rattle.tokens.specs.declared.Mode.TheVariants as mode
 use Rattle.tokens.specs.declared.Join.TheVariants.{And, Or}
 use Rattle.tokens.specs.declared.Fix.{Fix}
 use Rattle.formula.specs.Parse.{until_form, parse}
-use Rattle.formula.specs.Checks.{pass_of}
+use Rattle.formula.specs.Checks.{pass_at, pass_of}
 use Rattle.formula.specs.declared.Pass.{Pass}
-use Rattle.formula.specs.declared.Pass.TheVariants.{Past, Refused4}
-use Rattle.formula.proofs.Passes.{not-past}
+use Rattle.formula.proofs.Passes.{not-past, place_of}
 use Rattle.formula.proofs.Readings.{parse_reads}
 use Rattle.formula.proofs.Written.{read_taken}
 use Rattle.formula.proofs.Versions.{takes-absent}
@@ -35,6 +35,7 @@ use Rattle.diagram.specs.Post.{Denotes}
 use Rattle.diagram.specs.Keep.{Keeps}
 use Rattle.diagram.proofs.Keep.{keeps_denotes}
 use Rattle.rows.specs.Used.{rows_of}
+use Rattle.table.specs.declared.Full.{Full}
 use Rattle.counting.specs.declared.Taken.{Taken}
 use Rattle.book.specs.Bridge.{fn_of}
 use Rattle.book.proofs.Written.{run-written}
@@ -42,6 +43,7 @@ use Rattle.book.proofs.Follow.{evals-same, evals-leaf, denotes_in}
 use Rattle.modal.specs.declared.Limits.{Limits}
 use Rattle.modal.specs.Modal.{ModalPre}
 use Rattle.modal.proofs.Chain.{moved_refl, base-wf}
+use Rattle.evaluator.specs.Scene.{evaluated}
 use Rattle.evaluator.specs.Scene.{stack_size, Scene, model_in, exist_in, Ready, Part, holds_reg, holds_rel, Answers, from_taken, OverPost}
 use Rattle.evaluator.specs.Scene.{JoinedPre, JoinedPost, EvalPre, EvalPost, round_of, own, is_some, round_form, Current, IsValue}
 use Rattle.evaluator.specs.Scene.{ReachPre, ReachPost, FurtherPre, FurtherPost, KeepPre, KeepPost, RoundPre, RoundPost, variable_of}
@@ -50,8 +52,8 @@ use Rattle.evaluator.proofs.Scene.{pushed, opened}
 use Rattle.evaluator.specs.declared.Body.{Body}
 use Rattle.evaluator.specs.declared.Body.TheVariants.{Binder, Until}
 use Rattle.evaluator.specs.declared.Context.{Context}
-use Rattle.evaluator.specs.declared.Evaluated.{Evaluated}
-use Rattle.evaluator.specs.declared.Evaluated.TheVariants.{Value}
+use Rattle.evaluator.specs.declared.Stopped.{Stopped}
+use Rattle.evaluator.specs.declared.Value.{Value}
 use Rattle.evaluator.proofs.Outcomes.{Halts}
 use Rattle.evaluator.proofs.State.{valid-asks, valid-read}
 use Rattle.evaluator.proofs.Tokens.{read-depth}
@@ -112,7 +114,7 @@ module _ {L : Limits} {W : View} {stack : List ℕ} {c : Context} {t x e : ℕ} 
   reach-asks y arrow = over-asks P.ready P.is-value refl refl t P.relation y arrow
 
 pub reach-answers : {L : Limits} {W : View} {stack : List ℕ} {c : Context} {t x e : ℕ} (y : ℕ) → y + 1 ≡ W.header (FIRST_RELATION + t)
-    → {X : View} (o : Taken) (m : Mode) {r : Evaluated}
+    → {X : View} (o : Result Taken Full) (m : Mode) {r : Result Value Stopped}
     → OverPost m L.bits L.rows L.limit W X (take c.held stack) y x c.count o → r ≡ from_taken e o
     → ReachPost L W X stack c m t x e r
 reach-answers {t = t} y arrow {X} o m v is-r = record { answers = λ σ f R h A. over-ends R A refl refl t h y arrow X o m v is-r }
@@ -130,11 +132,11 @@ module _ {L : Limits} {W : View} {stack : List ℕ} {c : Context} {t x : ℕ} (P
         is-value = own_value c P.ready e P.current;
       }
 
-  module _ {X : View} {e : ℕ} {r : Evaluated} (E : ReachPost L W X stack c All t x e r) where
-    pub box_halts : Halts r → FurtherPost L W X stack stack c All t x e r
+  module _ {X : View} {e : ℕ} {r : Result Value Stopped} (E : ReachPost L W X stack c mode.All t x e r) where
+    pub box_halts : Halts r → FurtherPost L W X stack stack c mode.All t x e r
     box_halts s = record { answers = λ σ R h u. first_stops (E.answers σ (var own) R h (own_value c R e u)) s And (dia t top) e }
 
-    module _ {a k : ℕ} {q : Count} (is : r ≡ Value a k q) where
+    module _ {a k : ℕ} {q : Count} (is : r ≡ evaluated a k q) where
       boxed : (σ : Scene) → Ready L W stack c.places c.held σ → holds_rel σ t ≡ true → Current L W σ x
           → Answers true L W X stack stack c.held c.count σ (box t (var own)) e r
       boxed σ R h u = E.answers σ (var own) R h (own_value c R e u)
@@ -152,9 +154,9 @@ module _ {L : Limits} {W : View} {stack : List ℕ} {c : Context} {t x : ℕ} (P
           (record { scene = _; form = top; ready = R; relation = P.relation; is-value = all-value (round_of c c.at q) R e w })
 
       module _ {v : ℕ} (w : v + 1 ≡ X.header VALID) {b : Context} (i : b ≡ round_of c c.at q)
-          {Y : View} {r' : Evaluated} (E' : ReachPost L X Y (set stack c.held a) b Some t v e r') where
-        D : ReachPost L X Y (set stack c.held a) (round_of c c.at q) Some t v e r'
-        D = subst (λ (d : Context). ReachPost L X Y (set stack c.held a) d Some t v e r') i E'
+          {Y : View} {r' : Result Value Stopped} (E' : ReachPost L X Y (set stack c.held a) b mode.Some t v e r') where
+        D : ReachPost L X Y (set stack c.held a) (round_of c c.at q) mode.Some t v e r'
+        D = subst (λ (d : Context). ReachPost L X Y (set stack c.held a) d mode.Some t v e r') i E'
 
         same : length (set stack c.held a) ≡ length stack
         same = length-set stack c.held a
@@ -172,16 +174,16 @@ module _ {L : Limits} {W : View} {stack : List ℕ} {c : Context} {t x : ℕ} (P
               (all_dia P.scene P.ready P.relation P.current) is' And refl;
         }
 
-        pub and-answered : {Z : View} {r'' : Evaluated} → JoinedPost L Y Z (set stack c.held a) c.held And a r' r''
-            → FurtherPost L W Z stack (set stack c.held a) c All t x e r''
+        pub and-answered : {Z : View} {r'' : Result Value Stopped} → JoinedPost L Y Z (set stack c.held a) c.held And a r' r''
+            → FurtherPost L W Z stack (set stack c.held a) c mode.All t x e r''
         and-answered J = record { answers = λ σ R h u. both-joined R (boxed σ R h u) refl is P.room same (all_dia σ R h u) And J }
 
   -- diamond of the current set alone
-  pub some-answered : {X : View} {e : ℕ} {r : Evaluated} → ReachPost L W X stack c Some t x e r
-      → FurtherPost L W X stack stack c Some t x e r
+  pub some-answered : {X : View} {e : ℕ} {r : Result Value Stopped} → ReachPost L W X stack c mode.Some t x e r
+      → FurtherPost L W X stack stack c mode.Some t x e r
   some-answered {e = e} E = record { answers = λ σ R h u. E.answers σ (var own) R h (own_value c R e u) }
 
-pub further_as : {L : Limits} {W X : View} {stack after : List ℕ} {c : Context} {t x e : ℕ} {r : Evaluated} {m n : Mode} → n ≡ m
+pub further_as : {L : Limits} {W X : View} {stack after : List ℕ} {c : Context} {t x e : ℕ} {r : Result Value Stopped} {m n : Mode} → n ≡ m
     → FurtherPost L W X stack after c m t x e r → FurtherPost L W X stack after c n t x e r
 further_as {L} {W} {X} {stack} {after} {c} {t} {x} {e} {r} q E = subst (λ (m : Mode). FurtherPost L W X stack after c m t x e r) (sym q) E
 
@@ -191,7 +193,8 @@ pub kept-asked : {L : Limits} {W : View} {stack bs : List ℕ} {c : Context} {t 
     → EvalPre Runs L W stack bs c
 kept-asked P = record { takes = inr refl; room = P.room; scene = P.scene; form = P.form; end = P.end; ready = P.ready; part = P.part }
 
-module _ {L : Limits} {W X : View} {stack after bs : List ℕ} {c : Context} {t x : ℕ} {r : Evaluated} (P : KeepPre L W stack bs c t x)
+module _ {L : Limits} {W X : View} {stack after bs : List ℕ} {c : Context} {t x : ℕ} {r : Result Value Stopped}
+    (P : KeepPre L W stack bs c t x)
     (E : EvalPost Runs L W X stack after bs c r) where
   pub keep_halts : Halts r → (m : Mode) (e : ℕ) → KeepPost L W X stack after bs c m t x e r
   keep_halts s m e = record { answers = λ σ f k R p h u. first_stops (E.answers σ f k R p) s And (goes (is_some m) t own) e }
@@ -199,7 +202,7 @@ module _ {L : Limits} {W X : View} {stack after bs : List ℕ} {c : Context} {t 
   pub keep-room : c.held + 1 < stack_size
   keep-room = let l = P.room in let d = read-depth P.part.stands in omega arith
 
-  module _ (z : length after ≡ length stack) {a k : ℕ} {q : Count} (is : r ≡ Value a k q) where
+  module _ (z : length after ≡ length stack) {a k : ℕ} {q : Count} (is : r ≡ evaluated a k q) where
     free : c.held < stack_size
     free = let l = keep-room in omega arith
 
@@ -215,7 +218,7 @@ module _ {L : Limits} {W X : View} {stack after bs : List ℕ} {c : Context} {t 
         })
 
     module _ {b : Context} (i : b ≡ round_of c c.at q) {Y : View} {last : List ℕ}
-        {m : Mode} {e : ℕ} {r' : Evaluated} (F' : FurtherPost L X Y (set after c.held a) last b m t x e r')
+        {m : Mode} {e : ℕ} {r' : Result Value Stopped} (F' : FurtherPost L X Y (set after c.held a) last b m t x e r')
         (z' : length last ≡ length (set after c.held a)) where
       F : FurtherPost L X Y (set after c.held a) last (round_of c c.at q) m t x e r'
       F = subst (λ (d : Context). FurtherPost L X Y (set after c.held a) last d m t x e r') i F'
@@ -240,7 +243,7 @@ module _ {L : Limits} {W X : View} {stack after bs : List ℕ} {c : Context} {t 
             (rest-answers P.ready P.part P.relation P.current) is' And refl;
       }
 
-      pub keep-answered : {Z : View} {r'' : Evaluated} → JoinedPost L Y Z last c.held And a r' r''
+      pub keep-answered : {Z : View} {r'' : Result Value Stopped} → JoinedPost L Y Z last c.held And a r' r''
           → KeepPost L W Z stack last bs c m t x e r''
       keep-answered J =
           record { answers = λ σ f k R p h u. both-joined R (part-answers R p h u) z is free same₂ (rest-answers R p h u) And J }
@@ -266,7 +269,7 @@ goal-asked P =
     }
 
 module _ {L : Limits} {W X : View} {stack after bs : List ℕ}
-    {c : Context} {middle t x : ℕ} {r : Evaluated} (P : RoundPre L W stack bs c middle t x)
+    {c : Context} {middle t x : ℕ} {r : Result Value Stopped} (P : RoundPre L W stack bs c middle t x)
     (E : EvalPost Runs L W X stack after bs (goal_of c middle) r) where
   pub goal_halts : Halts r → (m : Mode) → RoundPost L W X stack after bs c middle m t x r
   goal_halts s m = record { answers = λ σ f g e R p g' h u. first_stops (E.answers σ g e R g') s Or (conj f (goes (is_some m) t own)) e }
@@ -274,7 +277,7 @@ module _ {L : Limits} {W X : View} {stack after bs : List ℕ}
   pub round-free : c.held < stack_size
   round-free = let l = P.room in omega arith
 
-  module _ (z : length after ≡ length stack) {a k : ℕ} {q : Count} (is : r ≡ Value a k q) where
+  module _ (z : length after ≡ length stack) {a k : ℕ} {q : Count} (is : r ≡ evaluated a k q) where
     pub kept-part : {b : Context} → b ≡ round_of c c.at q → KeepPre L X (set after c.held a) bs b t x
     kept-part i =
         let A = E.answers P.scene P.right P.end P.ready P.second in
@@ -290,7 +293,7 @@ module _ {L : Limits} {W X : View} {stack after bs : List ℕ}
         })
 
     module _ {b : Context} (i : b ≡ round_of c c.at q) {Y : View} {last : List ℕ}
-        {m : Mode} {r' : Evaluated} (K' : KeepPost L X Y (set after c.held a) last bs b m t x k r')
+        {m : Mode} {r' : Result Value Stopped} (K' : KeepPost L X Y (set after c.held a) last bs b m t x k r')
         (z' : length last ≡ length (set after c.held a)) where
       K : KeepPost L X Y (set after c.held a) last bs (round_of c c.at q) m t x k r'
       K = subst (λ (d : Context). KeepPost L X Y (set after c.held a) last bs d m t x k r') i K'
@@ -320,7 +323,7 @@ module _ {L : Limits} {W X : View} {stack after bs : List ℕ}
             round-free same₃ (keep-answers P.ready P.first P.second P.relation P.current) is' Or refl;
       }
 
-      pub or-answered : {Z : View} {r'' : Evaluated} → JoinedPost L Y Z last c.held Or a r' r''
+      pub or-answered : {Z : View} {r'' : Result Value Stopped} → JoinedPost L Y Z last c.held Or a r' r''
           → RoundPost L W Z stack last bs c middle m t x r''
       or-answered J =
           record {
@@ -330,16 +333,16 @@ module _ {L : Limits} {W X : View} {stack after bs : List ℕ}
 -- ---- until as a body of rounds
 
 -- where g begins is what the syntax pass of f says
-pub body-read : {L : Limits} {bs : List ℕ} {c : Context} {y : Pass}
+pub body-read : {L : Limits} {bs : List ℕ} {c : Context} {y : Option Pass}
     → y ≡ pass_of (λ (g : Form). true) (parse L.bits Runs c.depth bs c.at)
-    → {middle : ℕ} {ok : Bool} → y ≡ Past middle ok → {m : Mode} {t : ℕ} → UntilPost L bs c m t (Until m t middle)
+    → {middle : ℕ} {ok : Bool} → y ≡ Some (pass_at middle ok) → {m : Mode} {t : ℕ} → UntilPost L bs c m t (Until m t middle)
 body-read h {middle} {ok} z {m} {t} = record {
-  says = λ f k p. let w : Past k true ≡ Past middle ok = sym (ap (pass_of (λ (g : Form). true)) p.reads) ∙ sym h ∙ z in
-      let same : middle ≡ k = cc in ap (Until m t) same;
+  says = λ f k p. let w : Some (pass_at k true) ≡ Some (pass_at middle ok) = sym (ap (pass_of (λ (g : Form). true)) p.reads) ∙ sym h ∙ z in
+      ap (Until m t) (sym (ap place_of w));
 }
 
-pub body_unread : {L : Limits} {bs : List ℕ} {c : Context} {y : Pass}
-    → y ≡ pass_of (λ (g : Form). true) (parse L.bits Runs c.depth bs c.at) → y ≡ Refused4
+pub body_unread : {L : Limits} {bs : List ℕ} {c : Context} {y : Option Pass}
+    → y ≡ pass_of (λ (g : Form). true) (parse L.bits Runs c.depth bs c.at) → y ≡ None
     → {m : Mode} {t : ℕ} {b : Body} → UntilPost L bs c m t b
 body_unread h z = record { says = λ f k p. absurd (not-past (sym z ∙ h ∙ ap (pass_of (λ (g : Form). true)) p.reads)) }
 
@@ -351,10 +354,11 @@ absent_of {n} {bs} {at} {depth} {f = f} {k = k} p =
 
 -- the formula written with the binder of X is until
 pub until_as : {L : Limits} {W X : View} {stack after : List ℕ}
-    {held : ℕ} {count : Count} {σ : Scene} {f g : Form} {e : ℕ} {r : Evaluated} (m : Mode) (t : ℕ) → T (absent own f) → T (absent own g)
+    {held : ℕ} {count : Count} {σ : Scene} {f g : Form} {e : ℕ} {r : Result Value Stopped} (m : Mode) (t : ℕ) → T (absent own f)
+    → T (absent own g)
     → Answers true L W X stack after held count σ (written (is_some m) t own f g) e r
     → Answers true L W X stack after held count σ (until_form m t f g) e r
-until_as {L} {count = count} {σ = σ} {f = f} {g = g} All t hf hg A =
+until_as {L} {count = count} {σ = σ} {f = f} {g = g} mode.All t hf hg A =
     record {
       moved =
           A.moved;
@@ -365,7 +369,7 @@ until_as {L} {count = count} {σ = σ} {f = f} {g = g} All t hf hg A =
           A.evals;
       end = A.end;
     }
-until_as {L} {count = count} {σ = σ} {f = f} {g = g} Some t hf hg A =
+until_as {L} {count = count} {σ = σ} {f = f} {g = g} mode.Some t hf hg A =
     record {
       moved =
           A.moved;
@@ -426,7 +430,7 @@ module _ {L : Limits} {W : View} {stack bs : List ℕ} {c : Context} {a : ℕ} (
     };
   }
 
-  pub turn-answers : (b : Body) {X : View} {after : List ℕ} {r : Evaluated} → TurnPost L W X stack after bs c b a r
+  pub turn-answers : (b : Body) {X : View} {after : List ℕ} {r : Result Value Stopped} → TurnPost L W X stack after bs c b a r
       → Ready L W stack c.places c.held (opened L.bits σ (variable_of b) a A)
       → BodyPart L.bits bs c.at c.depth (set σ.scope (variable_of b) true) (holds_reg σ) (holds_rel σ) b f e
       → Answers true L W X stack after c.held c.count (opened L.bits σ (variable_of b) a A) f e r
@@ -445,11 +449,11 @@ module _ {L : Limits} {W : View} {stack bs : List ℕ} {c : Context} {b : Body} 
   pub round-asked : {m : Mode} {t middle : ℕ} → b ≡ Until m t middle → TurnPre L W stack bs c b x → RoundPre L W stack bs c middle t x
   round-asked e T = (subst (λ (d : Body). TurnPre L W stack bs c d x) e T).asks
 
-  pub formula_answered : {y : Fix} {P : ℕ} → b ≡ Binder y P → {X : View} {after : List ℕ} {r : Evaluated}
+  pub formula_answered : {y : Fix} {P : ℕ} → b ≡ Binder y P → {X : View} {after : List ℕ} {r : Result Value Stopped}
       → EvalPost Runs L W X stack after bs c r → TurnPost L W X stack after bs c b x r
   formula_answered e {X} {after} {r} E = subst (λ (d : Body). TurnPost L W X stack after bs c d x r) (sym e) (record { says = E })
 
-  pub round-answered : {m : Mode} {t middle : ℕ} → b ≡ Until m t middle → {X : View} {after : List ℕ} {r : Evaluated}
+  pub round-answered : {m : Mode} {t middle : ℕ} → b ≡ Until m t middle → {X : View} {after : List ℕ} {r : Result Value Stopped}
       → RoundPost L W X stack after bs c middle m t x r
       → TurnPost L W X stack after bs c b x r
   round-answered e {X} {after} {r} E = subst (λ (d : Body). TurnPost L W X stack after bs c d x r) (sym e) (record { says = E })

@@ -1,3 +1,4 @@
+pub mod Stops
 pub mod Scene
 pub mod Whole
 pub mod Posts

@@ -1,5 +1,5 @@
 -- What an evaluation of a formula stands in, what it asks, and what it answers. Assumes nothing.
-use Rattle.std.specs.Prelude.{◌≡◌, ◌⊎◌, Bool, true, false, ◌&&◌, ℕ, ◌+◌, ◌*◌, ◌^◌, ◌≤◌, ◌<◌, ltb, length, get_or, set, take}
+use Rattle.std.specs.Prelude.{◌≡◌, ◌⊎◌, Bool, true, false, ◌&&◌, ℕ, ◌+◌, ◌*◌, ◌^◌, ◌≤◌, ◌<◌, ltb, length, get_or, set, take, Result, Ok, Err}
 use mathlib.Core.List.{List, Memᴰ as Mem}
 use Rattle.std.proofs.Math.Option.{Option, some}
 use Rattle.mucalculus.specs.Order.{Below}
@@ -16,7 +16,7 @@ use Rattle.tokens.specs.declared.Fix.TheVariants.{Mu, Nu}
 use Rattle.tokens.specs.declared.Join.{Join}
 use Rattle.tokens.specs.declared.Join.TheVariants.{And, Or}
 use Rattle.tokens.specs.declared.Mode.{Mode}
-use Rattle.tokens.specs.declared.Mode.TheVariants.{All, Some}
+use Rattle.tokens.specs.declared.Mode.TheVariants as mode
 use Rattle.formula.specs.Parse.{leaf_form, join_form, modal_form, binder_form, got, parse}
 use Rattle.formula.specs.Checks.{filled}
 use Rattle.accounts.specs.declared.Count.{Count}
@@ -31,9 +31,9 @@ use Rattle.collect.specs.Lent.{live}
 use Rattle.steps.specs.declared.Step.{Step}
 use Rattle.steps.specs.declared.Step.TheVariants as step
 use Rattle.steps.specs.Steps.{step_f, live_at, StepPre, Stepped}
-use Rattle.counting.specs.Taken.{made_in, Counted}
+use Rattle.table.specs.declared.Full.{Full}
+use Rattle.counting.specs.Taken.{taken, ran_out, made_in, Counted}
 use Rattle.counting.specs.declared.Taken.{Taken}
-use Rattle.counting.specs.declared.Taken.TheVariants as taken
 use Rattle.book.specs.Bridge.{fn_of, fn_of_pairs}
 use Rattle.book.specs.Book.{registers, relations}
 use Rattle.book.specs.Table.{Place}
@@ -48,8 +48,9 @@ use Rattle.modal.specs.Modal.{DiamondPost, BoxPost}
 use Rattle.evaluator.specs.declared.Body.{Body}
 use Rattle.evaluator.specs.declared.Body.TheVariants.{Binder, Until}
 use Rattle.evaluator.specs.declared.Context.{Context}
-use Rattle.evaluator.specs.declared.Evaluated.{Evaluated}
-use Rattle.evaluator.specs.declared.Evaluated.TheVariants.{Value, Full, Spent}
+use Rattle.evaluator.specs.declared.Stopped.{Stopped}
+use Rattle.evaluator.specs.declared.Value.{Value}
+use Rattle.evaluator.specs.declared.Stopped.TheVariants as stopped
 
 -- what a formula is evaluated over: the book's V, registers and relations, the open variables and their sets, and what is live: the roots
 -- and the functions that they hold
@@ -132,16 +133,20 @@ pub record Part (g : Grammar) (n : ℕ) (bs : List ℕ) (at depth : ℕ) (scope 
   pub stands : Stands n g bs at depth f e
   pub named : Named scope regs rels f
 
--- the answer as the book has it, and the place after the formula
-abbrev pub ended_of : Evaluated → Ended
-ended_of (Value a k q) = ends a q
-ended_of Full = eight
-ended_of Spent = nine
+-- the answer that has the arrow a, the place k after the formula and the count q
+abbrev pub evaluated : ℕ → ℕ → Count → Result Value Stopped
+evaluated a k q = Ok (record { arrow = a; next = k; count = q })
 
-abbrev pub EndsAt : ℕ → Evaluated → Type 0
-EndsAt e (Value a k q) = k ≡ e
-EndsAt e Full = Unit {0}
-EndsAt e Spent = Unit {0}
+-- the answer as the book has it, and the place after the formula
+abbrev pub ended_of : Result Value Stopped → Ended
+ended_of (Ok v) = ends v.arrow v.count
+ended_of (Err stopped.Full) = eight
+ended_of (Err stopped.Spent) = nine
+
+abbrev pub EndsAt : ℕ → Result Value Stopped → Type 0
+EndsAt e (Ok v) = v.next ≡ e
+EndsAt e (Err stopped.Full) = Unit {0}
+EndsAt e (Err stopped.Spent) = Unit {0}
 
 -- the run of f in a scene, so much being counted before
 abbrev pub run_in : Bool → Limits → Scene → Form → Count → Outcome
@@ -150,26 +155,26 @@ run_in b L σ f r = run (over_in b L.bits σ) L.limit L.rounds σ.fns f r
 -- the evaluation of f, with `true` over states, with `false` over pairs: what it leaves of the words, the live part of the stack as it was,
 -- and the book's outcome
 pub record Answers (b : Bool) (L : Limits) (W X : View) (stack after : List ℕ)
-    (held : ℕ) (count : Count) (σ : Scene) (f : Form) (e : ℕ) (r : Evaluated) : Type 0 where
+    (held : ℕ) (count : Count) (σ : Scene) (f : Form) (e : ℕ) (r : Result Value Stopped) : Type 0 where
   pub moved : Moved L.bits W X
   pub kept : take held after ≡ take held stack
   pub evals : EvalsBy (value_in b L.bits σ) L.bits L.rows (rows_of W) (rows_of X) σ.roots (run_in b L σ f count) (ended_of r)
   pub end : EndsAt e r
 
 -- a step's answer as the book has it
-abbrev pub ended_in : Taken → Ended
-ended_in (taken.At a c) = ends a c
-ended_in taken.Full = eight
+abbrev pub ended_in : Result Taken Full → Ended
+ended_in (Ok t) = ends t.arrow t.count
+ended_in (Err x) = eight
 
 -- the value of a leaf, or its step
-pub record LeafAnswers (b : Bool) (L : Limits) (W X : View) (count : Count) (σ : Scene) (f : Form) (o : Taken) : Type 0 where
+pub record LeafAnswers (b : Bool) (L : Limits) (W X : View) (count : Count) (σ : Scene) (f : Form) (o : Result Taken Full) : Type 0 where
   pub moved : Moved L.bits W X
   pub evals : EvalsBy (value_in b L.bits σ) L.bits L.rows (rows_of W) (rows_of X) σ.roots (run_in b L σ f count) (ended_in o)
 
 -- a step's result as an answer
-abbrev pub from_taken : ℕ → Taken → Evaluated
-from_taken e (taken.At a c) = Value a e c
-from_taken e taken.Full = Full
+abbrev pub from_taken : ℕ → Result Taken Full → Result Value Stopped
+from_taken e (Ok t) = evaluated t.arrow e t.count
+from_taken e (Err x) = Err stopped.Full
 
 -- the step of AND or OR
 abbrev pub join_step : Join → ℕ → ℕ → Step
@@ -190,13 +195,13 @@ is_least Mu = true
 is_least Nu = false
 
 -- box within V, whose arrow is v
-pub record Boxes (n N limit : ℕ) (W X : View) (lent : List ℕ) (v t a : ℕ) (q : Count) (o : Taken) : Type 0 where
+pub record Boxes (n N limit : ℕ) (W X : View) (lent : List ℕ) (v t a : ℕ) (q : Count) (o : Result Taken Full) : Type 0 where
   pub box : BoxPost n N limit W X lent v t a q o
 
 -- that, or diamond, over functions of levels
-abbrev pub OverPost : Mode → ℕ → ℕ → ℕ → View → View → List ℕ → ℕ → ℕ → Count → Taken → Type 0
-OverPost All n N limit W X lent t a q o = Boxes n N limit W X lent (valid_of W) t a q o
-OverPost Some n N limit W X lent t a q o = DiamondPost n N limit W X lent t a q o
+abbrev pub OverPost : Mode → ℕ → ℕ → ℕ → View → View → List ℕ → ℕ → ℕ → Count → Result Taken Full → Type 0
+OverPost mode.All n N limit W X lent t a q o = Boxes n N limit W X lent (valid_of W) t a q o
+OverPost mode.Some n N limit W X lent t a q o = DiamondPost n N limit W X lent t a q o
 
 -- ---- what the functions ask, and what they promise in every scene that the words and the stack hold
 
@@ -205,40 +210,42 @@ pub record LivePre (L : Limits) (W : View) (stack : List ℕ) (held : ℕ) (s : 
   pub within : held ≤ length stack
   pub asks : StepPre (2 * L.bits) L.rows L.limit W (take held stack) s
 
-pub record LivePost (L : Limits) (W X : View) (stack : List ℕ) (held : ℕ) (s : Step) (q : Count) (o : Taken) : Type 0 where
+pub record LivePost (L : Limits) (W X : View) (stack : List ℕ) (held : ℕ) (s : Step) (q : Count) (o : Result Taken Full) : Type 0 where
   pub stepped : Stepped (2 * L.bits) L.rows L.limit W X (take held stack) s (made_in o)
   pub count : Counted (2 * L.bits) (rows_of W) (live_at W (take held stack) s) (step_f (2 * L.bits) (rows_of W) s) q o
 
 -- two parts, of which the first has the value a: the second one's answer where that is no value, else the step of both values
-pub record JoinedPre (L : Limits) (W : View) (stack : List ℕ) (held : ℕ) (j : Join) (a : ℕ) (second : Evaluated) : Type 0 where
-  pub asks : (b k : ℕ) (q : Count) → second ≡ Value b k q → LivePre L W stack held (join_step j a b)
+pub record JoinedPre (L : Limits) (W : View) (stack : List ℕ) (held : ℕ) (j : Join) (a : ℕ) (second : Result Value Stopped) : Type 0 where
+  pub asks : (b k : ℕ) (q : Count) → second ≡ evaluated b k q → LivePre L W stack held (join_step j a b)
 
-abbrev pub JoinedTo : Limits → View → View → List ℕ → ℕ → Join → ℕ → Evaluated → Evaluated → Type 0
-JoinedTo L W X stack held j a (Value b k q) r = (o : Taken) × LivePost L W X stack held (join_step j a b) q o × (r ≡ from_taken k o)
-JoinedTo L W X stack held j a Full r = (X ≡ W) × (r ≡ Full)
-JoinedTo L W X stack held j a Spent r = (X ≡ W) × (r ≡ Spent)
+abbrev pub JoinedTo : Limits → View → View → List ℕ → ℕ → Join → ℕ → Result Value Stopped → Result Value Stopped → Type 0
+JoinedTo L W X stack held j a (Ok v) r =
+    (o : Result Taken Full) × LivePost L W X stack held (join_step j a v.arrow) v.count o × (r ≡ from_taken v.next o)
+JoinedTo L W X stack held j a (Err stopped.Full) r = (X ≡ W) × (r ≡ Err stopped.Full)
+JoinedTo L W X stack held j a (Err stopped.Spent) r = (X ≡ W) × (r ≡ Err stopped.Spent)
 
-pub record JoinedPost (L : Limits) (W X : View) (stack : List ℕ) (held : ℕ) (j : Join) (a : ℕ) (second r : Evaluated) : Type 0 where
+pub record JoinedPost (L : Limits) (W X : View) (stack : List ℕ) (held : ℕ) (j : Join) (a : ℕ)
+    (second r : Result Value Stopped) : Type 0 where
   pub joins : JoinedTo L W X stack held j a second r
 
 -- the result of a step, which began with the words `earlier`, and over states AND with V
-pub record ConfinedPre (L : Limits) (W : View) (stack : List ℕ) (held : ℕ) (first : Taken) : Type 0 where
+pub record ConfinedPre (L : Limits) (W : View) (stack : List ℕ) (held : ℕ) (first : Result Taken Full) : Type 0 where
   pub scene : Scene
   pub places : List ℕ
   pub ready : Ready L W stack places held scene
-  pub arrow : (x : ℕ) (q : Count) → first ≡ taken.At x q → Arrow (rows_of W) x
+  pub arrow : (x : ℕ) (q : Count) → first ≡ taken x q → Arrow (rows_of W) x
   pub earlier : View
   pub last : Step
   pub before : Count
   pub told : LivePost L earlier W stack held last before first
 
-abbrev pub ConfinedTo : Bool → Limits → View → View → List ℕ → ℕ → Taken → Taken → Type 0
-ConfinedTo true L W X stack held (taken.At x q) r = LivePost L W X stack held (step.And x (valid_of W)) q r
-ConfinedTo false L W X stack held (taken.At x q) r = (X ≡ W) × (r ≡ taken.At x q)
-ConfinedTo true L W X stack held taken.Full r = (X ≡ W) × (r ≡ taken.Full)
-ConfinedTo false L W X stack held taken.Full r = (X ≡ W) × (r ≡ taken.Full)
+abbrev pub ConfinedTo : Bool → Limits → View → View → List ℕ → ℕ → Result Taken Full → Result Taken Full → Type 0
+ConfinedTo true L W X stack held (Ok t) r = LivePost L W X stack held (step.And t.arrow (valid_of W)) t.count r
+ConfinedTo false L W X stack held (Ok t) r = (X ≡ W) × (r ≡ Ok t)
+ConfinedTo true L W X stack held (Err x) r = (X ≡ W) × (r ≡ ran_out)
+ConfinedTo false L W X stack held (Err x) r = (X ≡ W) × (r ≡ ran_out)
 
-pub record ConfinedPost (b : Bool) (L : Limits) (W X : View) (stack : List ℕ) (held : ℕ) (first r : Taken) : Type 0 where
+pub record ConfinedPost (b : Bool) (L : Limits) (W X : View) (stack : List ℕ) (held : ℕ) (first r : Result Taken Full) : Type 0 where
   pub to : ConfinedTo b L W X stack held first r
 
 -- true, V's word being w: V over states, else all pairs
@@ -256,7 +263,7 @@ pub record LeafPre (g : Grammar) (L : Limits) (W : View) (stack : List ℕ) (c :
   pub named : Named scene.scope (holds_reg scene) (holds_rel scene) (leaf_form l)
   pub taken : leaf_allowed l L.bits g ≡ true
 
-pub record LeafPost (g : Grammar) (L : Limits) (W X : View) (stack : List ℕ) (c : Context) (l : Leaf) (o : Taken) : Type 0 where
+pub record LeafPost (g : Grammar) (L : Limits) (W X : View) (stack : List ℕ) (c : Context) (l : Leaf) (o : Result Taken Full) : Type 0 where
   pub answers : (σ : Scene) → Ready L W stack c.places c.held σ → Named σ.scope (holds_reg σ) (holds_rel σ) (leaf_form l)
       → LeafAnswers (only_now g) L W X c.count σ (leaf_form l) o
 
@@ -273,13 +280,15 @@ pub record EvalPre (g : Grammar) (L : Limits) (W : View) (stack bs : List ℕ) (
   pub ready : Ready L W stack c.places c.held scene
   pub part : Part g L.bits bs c.at c.depth scene.scope (holds_reg scene) (holds_rel scene) form end
 
-pub record EvalPost (g : Grammar) (L : Limits) (W X : View) (stack after bs : List ℕ) (c : Context) (r : Evaluated) : Type 0 where
+pub record EvalPost (g : Grammar) (L : Limits) (W X : View) (stack after bs : List ℕ) (c : Context)
+    (r : Result Value Stopped) : Type 0 where
   pub answers : (σ : Scene) (f : Form) (e : ℕ) → Ready L W stack c.places c.held σ
       → Part g L.bits bs c.at c.depth σ.scope (holds_reg σ) (holds_rel σ) f e
       → Answers (only_now g) L W X stack after c.held c.count σ f e r
 
 -- NOT: f is its part, of which it asks what evaluating it does
-pub record NegatePost (g : Grammar) (L : Limits) (W X : View) (stack after bs : List ℕ) (c : Context) (r : Evaluated) : Type 0 where
+pub record NegatePost (g : Grammar) (L : Limits) (W X : View) (stack after bs : List ℕ) (c : Context)
+    (r : Result Value Stopped) : Type 0 where
   pub answers : (σ : Scene) (f : Form) (e : ℕ) → Ready L W stack c.places c.held σ
       → Part g L.bits bs c.at c.depth σ.scope (holds_reg σ) (holds_rel σ) f e
       → Answers (only_now g) L W X stack after c.held c.count σ (neg f) e r
@@ -298,7 +307,7 @@ pub record BothPre (g : Grammar) (L : Limits) (W : View) (stack bs : List ℕ) (
   pub second : Part g L.bits bs middle c.depth scene.scope (holds_reg scene) (holds_rel scene) right end
 
 pub record BothPost (g : Grammar) (L : Limits) (W X : View) (stack after bs : List ℕ)
-    (c : Context) (j : Join) (r : Evaluated) : Type 0 where
+    (c : Context) (j : Join) (r : Result Value Stopped) : Type 0 where
   pub answers : (σ : Scene) (f h : Form) (m e : ℕ) → Ready L W stack c.places c.held σ
       → Part g L.bits bs c.at c.depth σ.scope (holds_reg σ) (holds_rel σ) f m
       → Part g L.bits bs m c.depth σ.scope (holds_reg σ) (holds_rel σ) h e
@@ -314,7 +323,8 @@ pub record ModePre (L : Limits) (W : View) (stack bs : List ℕ) (c : Context) (
   pub part : Part Runs L.bits bs c.at c.depth scene.scope (holds_reg scene) (holds_rel scene) form end
   pub relation : holds_rel scene t ≡ true
 
-pub record ModePost (L : Limits) (W X : View) (stack after bs : List ℕ) (c : Context) (m : Mode) (t : ℕ) (r : Evaluated) : Type 0 where
+pub record ModePost (L : Limits) (W X : View) (stack after bs : List ℕ) (c : Context) (m : Mode) (t : ℕ)
+    (r : Result Value Stopped) : Type 0 where
   pub answers : (σ : Scene) (f : Form) (e : ℕ) → Ready L W stack c.places c.held σ
       → Part Runs L.bits bs c.at c.depth σ.scope (holds_reg σ) (holds_rel σ) f e
       → holds_rel σ t ≡ true → Answers true L W X stack after c.held c.count σ (modal_form m t f) e r
@@ -327,8 +337,8 @@ own = 16
 
 -- on some run, or on every one
 abbrev pub is_some : Mode → Bool
-is_some All = false
-is_some Some = true
+is_some mode.All = false
+is_some mode.Some = true
 
 -- a round's formula
 abbrev pub round_form : Mode → ℕ → Form → Form → Form
@@ -342,7 +352,7 @@ pub record Current (L : Limits) (W : View) (σ : Scene) (x : ℕ) : Type 0 where
 
 -- x is the value of f, which took no step
 abbrev pub IsValue : Limits → View → List ℕ → Context → Scene → Form → ℕ → ℕ → Type 0
-IsValue L W stack c σ f x e = Answers true L W W stack stack c.held c.count σ f e (Value x e c.count)
+IsValue L W stack c σ f x e = Answers true L W W stack stack c.held c.count σ f e (evaluated x e c.count)
 
 -- box and diamond of a value
 pub record ReachPre (L : Limits) (W : View) (stack : List ℕ) (c : Context) (t x e : ℕ) : Type 0 where
@@ -352,7 +362,8 @@ pub record ReachPre (L : Limits) (W : View) (stack : List ℕ) (c : Context) (t 
   pub relation : holds_rel scene t ≡ true
   pub is-value : IsValue L W stack c scene form x e
 
-pub record ReachPost (L : Limits) (W X : View) (stack : List ℕ) (c : Context) (m : Mode) (t x e : ℕ) (r : Evaluated) : Type 0 where
+pub record ReachPost (L : Limits) (W X : View) (stack : List ℕ) (c : Context) (m : Mode) (t x e : ℕ)
+    (r : Result Value Stopped) : Type 0 where
   pub answers : (σ : Scene) (f : Form) → Ready L W stack c.places c.held σ → holds_rel σ t ≡ true → IsValue L W stack c σ f x e
       → Answers true L W X stack stack c.held c.count σ (modal_form m t f) e r
 
@@ -364,7 +375,8 @@ pub record FurtherPre (L : Limits) (W : View) (stack : List ℕ) (c : Context) (
   pub relation : holds_rel scene t ≡ true
   pub current : Current L W scene x
 
-pub record FurtherPost (L : Limits) (W X : View) (stack after : List ℕ) (c : Context) (m : Mode) (t x e : ℕ) (r : Evaluated) : Type 0 where
+pub record FurtherPost (L : Limits) (W X : View) (stack after : List ℕ) (c : Context) (m : Mode) (t x e : ℕ)
+    (r : Result Value Stopped) : Type 0 where
   pub answers : (σ : Scene) → Ready L W stack c.places c.held σ → holds_rel σ t ≡ true → Current L W σ x
       → Answers true L W X stack after c.held c.count σ (goes (is_some m) t own) e r
 
@@ -379,7 +391,8 @@ pub record KeepPre (L : Limits) (W : View) (stack bs : List ℕ) (c : Context) (
   pub relation : holds_rel scene t ≡ true
   pub current : Current L W scene x
 
-pub record KeepPost (L : Limits) (W X : View) (stack after bs : List ℕ) (c : Context) (m : Mode) (t x e : ℕ) (r : Evaluated) : Type 0 where
+pub record KeepPost (L : Limits) (W X : View) (stack after bs : List ℕ) (c : Context) (m : Mode) (t x e : ℕ)
+    (r : Result Value Stopped) : Type 0 where
   pub answers : (σ : Scene) (f : Form) (k : ℕ) → Ready L W stack c.places c.held σ
       → Part Runs L.bits bs c.at c.depth σ.scope (holds_reg σ) (holds_rel σ) f k
       → holds_rel σ t ≡ true → Current L W σ x → Answers true L W X stack after c.held c.count σ (conj f (goes (is_some m) t own)) e r
@@ -398,7 +411,7 @@ pub record RoundPre (L : Limits) (W : View) (stack bs : List ℕ) (c : Context) 
   pub current : Current L W scene x
 
 pub record RoundPost (L : Limits) (W X : View) (stack after bs : List ℕ)
-    (c : Context) (middle : ℕ) (m : Mode) (t x : ℕ) (r : Evaluated) : Type 0 where
+    (c : Context) (middle : ℕ) (m : Mode) (t x : ℕ) (r : Result Value Stopped) : Type 0 where
   pub answers : (σ : Scene) (f g : Form) (e : ℕ) → Ready L W stack c.places c.held σ
       → Part Runs L.bits bs c.at c.depth σ.scope (holds_reg σ) (holds_rel σ) f middle
       → Part Runs L.bits bs middle c.depth σ.scope (holds_reg σ) (holds_rel σ) g e → holds_rel σ t ≡ true → Current L W σ x
@@ -446,11 +459,12 @@ BodyAsks L W stack bs c (Until m t middle) x = RoundPre L W stack bs c middle t 
 pub record TurnPre (L : Limits) (W : View) (stack bs : List ℕ) (c : Context) (b : Body) (x : ℕ) : Type 0 where
   pub asks : BodyAsks L W stack bs c b x
 
-abbrev pub BodySays : Limits → View → View → List ℕ → List ℕ → List ℕ → Context → Body → ℕ → Evaluated → Type 0
+abbrev pub BodySays : Limits → View → View → List ℕ → List ℕ → List ℕ → Context → Body → ℕ → Result Value Stopped → Type 0
 BodySays L W X stack after bs c (Binder y P) x r = EvalPost Runs L W X stack after bs c r
 BodySays L W X stack after bs c (Until m t middle) x r = RoundPost L W X stack after bs c middle m t x r
 
-pub record TurnPost (L : Limits) (W X : View) (stack after bs : List ℕ) (c : Context) (b : Body) (x : ℕ) (r : Evaluated) : Type 0 where
+pub record TurnPost (L : Limits) (W X : View) (stack after bs : List ℕ) (c : Context) (b : Body) (x : ℕ)
+    (r : Result Value Stopped) : Type 0 where
   pub says : BodySays L W X stack after bs c b x r
 
 -- all rounds: mu or nu of f
@@ -462,7 +476,7 @@ pub record BindPre (L : Limits) (W : View) (stack bs : List ℕ) (c : Context) (
   pub ready : Ready L W stack c.places c.held scene
   pub part : BodyPart L.bits bs c.at c.depth (set scene.scope (variable_of b) true) (holds_reg scene) (holds_rel scene) b form end
 
-pub record BindPost (L : Limits) (W X : View) (stack after bs : List ℕ) (c : Context) (b : Body) (r : Evaluated) : Type 0 where
+pub record BindPost (L : Limits) (W X : View) (stack after bs : List ℕ) (c : Context) (b : Body) (r : Result Value Stopped) : Type 0 where
   pub answers : (σ : Scene) (f : Form) (e : ℕ) → Ready L W stack c.places c.held σ
       → BodyPart L.bits bs c.at c.depth (set σ.scope (variable_of b) true) (holds_reg σ) (holds_rel σ) b f e
       → Answers true L W X stack after c.held c.count σ (binder_form (fix_of b) (variable_of b) f) e r

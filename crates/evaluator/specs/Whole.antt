@@ -1,5 +1,5 @@
 -- The evaluation of a call's formula from a sound table: what it asks, and that its outcome is the book's. Assumes nothing.
-use Rattle.std.specs.Prelude.{◌≡◌, Bool, true, false, List, ℕ, ◌*◌, ◌≤◌, ◌<◌, length, replicate, set}
+use Rattle.std.specs.Prelude.{◌≡◌, Bool, true, false, List, ℕ, ◌*◌, ◌≤◌, ◌<◌, length, replicate, set, Result}
 use Rattle.mucalculus.specs.Form.{no_env}
 use Rattle.tokens.specs.declared.Kind.{Kind}
 use Rattle.tokens.specs.declared.Kind.TheVariants.{Relation, Set, Valid}
@@ -14,6 +14,7 @@ use Rattle.rows.specs.Used.{rows_of}
 use Rattle.rows.specs.Sound.{Sound}
 use Rattle.table.specs.Make.{result}
 use Rattle.operations.specs.Work.{OpFrame}
+use Rattle.table.specs.declared.Full.{Full}
 use Rattle.counting.specs.Taken.{made_in, count_in}
 use Rattle.counting.specs.declared.Taken.{Taken}
 use Rattle.accounts.specs.declared.Count.{Count}
@@ -33,7 +34,8 @@ use Rattle.modal.specs.declared.Limits.{Limits}
 use Rattle.modal.specs.Chain.{Ran}
 use Rattle.evaluator.specs.Scene.{Scene, Ready, ended_of, EvalPre, EvalPost}
 use Rattle.evaluator.specs.declared.Context.{Context}
-use Rattle.evaluator.specs.declared.Evaluated.{Evaluated}
+use Rattle.evaluator.specs.declared.Stopped.{Stopped}
+use Rattle.evaluator.specs.declared.Value.{Value}
 
 -- where an evaluation starts, no variable having a place
 abbrev pub no_places : List ℕ
@@ -60,7 +62,7 @@ pub record SetPre (L : Limits) (W : View) (bs : List ℕ) : Type 0 where
 
 -- a sound table with the rows that registers and relations need, nothing else touched, and the outcome of the book's steps: the set with
 -- its rounds and peak, 8 or 9
-pub record SetPost (L : Limits) (W X : View) (bs : List ℕ) (r : Evaluated) : Type 0 where
+pub record SetPost (L : Limits) (W X : View) (bs : List ℕ) (r : Result Value Stopped) : Type 0 where
   pub sound : Sound X
   pub frame : OpFrame W X
   pub evals : Evals (book_in W).n (book_in W).N (rows_of W) (rows_of X) (roots_of (seen_in W))
@@ -74,7 +76,7 @@ pub record OncePre (L : Limits) (W : View) (stack bs : List ℕ) (x : ℕ) (q : 
   pub more : q.rounds < 4_294_967_295
   pub asks : EvalPre Runs L W (set stack 0 x) bs (body_start q)
 
-abbrev pub OncePost : Limits → View → View → List ℕ → List ℕ → List ℕ → ℕ → Count → Evaluated → Type 0
+abbrev pub OncePost : Limits → View → View → List ℕ → List ℕ → List ℕ → ℕ → Count → Result Value Stopped → Type 0
 OncePost L W X stack after bs x q r = EvalPost Runs L W X (set stack 0 x) after bs (body_start q) r
 
 -- ---- within V
@@ -89,7 +91,7 @@ pub record WithinPre (L : Limits) (W : View) (stack : List ℕ) (a : ℕ) : Type
   pub ready : Ready L W stack no_places 0 scene
   pub operand : Arrow (rows_of W) a
 
-pub record WithinPost (L : Limits) (W X : View) (stack : List ℕ) (a : ℕ) (count : Count) (o : Taken) : Type 0 where
+pub record WithinPost (L : Limits) (W X : View) (stack : List ℕ) (a : ℕ) (count : Count) (o : Result Taken Full) : Type 0 where
   pub answers : (σ : Scene) → Ready L W stack no_places 0 σ
       → Ran L.bits L.rows W X σ.roots
       (fit L.limit (within_needs L.bits σ.fns (fn_of L.bits σ.valid) (den (2 * L.bits) (rows_of W) a)))
@@ -116,7 +118,7 @@ pub record PairsPre (L : Limits) (W : View) (bs : List ℕ) : Type 0 where
 
 -- a sound table with the rows that V, registers and relations need, nothing else touched, and the outcome of the formula's steps: its pairs
 -- with their peak, or 8
-pub record PairsPost (L : Limits) (W X : View) (bs : List ℕ) (o : Taken) : Type 0 where
+pub record PairsPost (L : Limits) (W X : View) (bs : List ℕ) (o : Result Taken Full) : Type 0 where
   pub sound : Sound X
   pub frame : OpFrame W X
   pub evals : (k : Kind) → of_pairs k ≡ true → checks (book_in W) k bs ≡ 0
@@ -125,7 +127,7 @@ pub record PairsPost (L : Limits) (W X : View) (bs : List ℕ) (o : Taken) : Typ
       (pairs_count (book_in W).n (live_of (book_in W)) (formula_in (book_in W) k bs) nothing) (result (made_in o)) (count_in o)
 
 -- the same of a relation's whole steps, those within V included
-pub record RelationPost (L : Limits) (W X : View) (bs : List ℕ) (o : Taken) : Type 0 where
+pub record RelationPost (L : Limits) (W X : View) (bs : List ℕ) (o : Result Taken Full) : Type 0 where
   pub sound : Sound X
   pub frame : OpFrame W X
   pub evals : checks (book_in W) Relation bs ≡ 0

@@ -6,9 +6,10 @@ ghost use Rattle.layout.specs.Places.{HEADER, VALID};
 ghost use Rattle.layout.specs.View.{header_of};
 ghost use Rattle.accounts.specs.Count.{another};
 ghost use Rattle.tokens.specs.Tokens.{only_now};
-ghost use Rattle.counting.specs.declared.Taken.TheVariants.{At};
 ghost use Rattle.book.specs.Turns.{start_arrow};
 ghost use Rattle.tokens.specs.declared.Mode.TheVariants.{All};
+ghost use Rattle.evaluator.specs.declared.Stopped.TheVariants as stopped;
+ghost use Rattle.evaluator.specs.Stops.{stopped_refusal};
 ghost use Rattle.evaluator.specs.Whole.{start, body_start};
 ghost use Rattle.evaluator.specs.Scene.{stack_size, from_taken, body_of, round_of, is_least, fix_of, variable_of, join_step};
 ghost use Rattle.evaluator.specs.Scene.{TrueIs, UntilPost};
@@ -21,23 +22,46 @@ ghost use Rattle.evaluator.specs.Posts.{SetAsks, SetGives, PairsAsks, PairsGives
 
 use accounts::Count;
 use counting::{Counts, Taken, begin, take};
-use formula::{Frame, Pass, syntax};
-use layout::{Table, header_word};
+use formula::{Frame, syntax};
+use layout::{Refusal, Table, header_word};
 use memory::forget;
 use modal::{Limits, boxed, diamond};
 use steps::Step;
-use tokens::{Fix, Grammar, Join, Lead, Leaf, Mode, Token, Two, lead_at, only_now};
+use table::Full;
+use tokens::{Fix, Grammar, Join, Leaf, Mode, Token, Two, lead_at, only_now};
 
-// What an evaluation answers: the arrow of the set, the place after the formula and what is counted; or why there is none.
+// What an evaluation answers: the arrow of the set, the place after the formula and what is counted.
 #[derive(Clone, Copy)]
-pub enum Evaluated {
-    Value {
-        arrow: u32,
-        next: usize,
-        count: Count,
-    },
+pub struct Value {
+    pub arrow: u32,
+    pub next: usize,
+    pub count: Count,
+}
+
+// Why an evaluation answers no value: the rows ran out, or the rounds did.
+#[derive(Clone, Copy)]
+pub enum Stopped {
     Full,
     Spent,
+}
+
+impl From<Full> for Stopped {
+    ghost from_gives = { λ _ e. e ≡ stopped.Full };
+
+    fn from(_full: Full) -> Stopped {
+        Stopped::Full
+    }
+}
+
+impl From<Stopped> for Refusal {
+    ghost from_gives = { λ s e. e ≡ stopped_refusal s };
+
+    fn from(stopped: Stopped) -> Refusal {
+        match stopped {
+            Stopped::Full => Refusal::Full,
+            Stopped::Spent => Refusal::Spent,
+        }
+    }
 }
 
 // What rounds are taken of: a binder's formula at the context's place, or until over a relation, whose f stands there and whose g at the
@@ -78,17 +102,15 @@ struct Context {
 }
 
 // A step's result as an answer.
-fn answer(taken: Taken, next: usize) -> Evaluated
+fn answer(taken: Result<Taken, Full>, next: usize) -> Result<Value, Stopped>
     ensures { result ≡ from_taken next taken }
 {
-    match taken {
-        Taken::At { arrow: a, count: c } => Evaluated::Value {
-            arrow: a,
-            next: next,
-            count: c,
-        },
-        Taken::Full => Evaluated::Full,
-    }
+    let made = taken?;
+    Ok(Value {
+        arrow: made.arrow,
+        next: next,
+        count: made.count,
+    })
 }
 
 // One round more is counted.
@@ -201,7 +223,7 @@ pub fn live_step(
     held: usize,
     s: Step,
     count: Count,
-) -> Taken
+) -> Result<Taken, Full>
     requires { LiveAsks limits words.old counts.old stack.now held s }
     ensures { LiveGives limits words.old words.new counts.new stack.now
         held s count result }
@@ -228,22 +250,16 @@ fn joined(
     held: usize,
     j: Join,
     a: u32,
-    second: Evaluated,
-) -> Evaluated
+    second: Result<Value, Stopped>,
+) -> Result<Value, Stopped>
     requires { JoinedAsks limits words.old counts.old stack.now held j a second }
     ensures { JoinedGives limits words.old words.new counts.new stack.now
         held j a second result }
 {
-    let Evaluated::Value {
-        arrow: b,
-        next: end,
-        count: total,
-    } = second
-    else {
-        return second;
-    };
-    let taken = live_step(words, counts, stack, limits, held, join_of(j, a, b), total);
-    answer(taken, end)
+    let value = second?;
+    let step = join_of(j, a, value.arrow);
+    let taken = live_step(words, counts, stack, limits, held, step, value.count);
+    answer(taken, value.next)
 }
 
 // A step's result, and for a formula of states AND with V, which answers and needs the same where V is every state.
@@ -255,23 +271,17 @@ fn confined(
     limits: Limits,
     grammar: Grammar,
     held: usize,
-    first: Taken,
-) -> Taken
+    first: Result<Taken, Full>,
+) -> Result<Taken, Full>
     requires { ConfinedAsks limits words.old counts.old stack.now held first }
     ensures { ConfinedGives limits words.old words.new counts.new stack.now
         held grammar first result }
 {
-    let Taken::At {
-        arrow: b,
-        count: counted,
-    } = first
-    else {
-        return Taken::Full;
-    };
+    let made = first?;
     if only_now(grammar) {
         let valid = root_arrow(words, Table::VALID);
         if valid == Table::EVERYTHING {
-            return first;
+            return Ok(made);
         }
         return live_step(
             words,
@@ -279,11 +289,11 @@ fn confined(
             stack,
             limits,
             held,
-            Step::And(b, valid),
-            counted,
+            Step::And(made.arrow, valid),
+            made.count,
         );
     }
-    first
+    Ok(made)
 }
 
 // True: V for a formula of states, all pairs for one of pairs.
@@ -299,9 +309,9 @@ fn truth(words: &[u32], grammar: Grammar) -> u32
 
 // An arrow that takes no step.
 pub fn unmoved(a: u32, count: Count) -> Taken
-    ensures { result ≡ At a count }
+    ensures { result ≡ record { arrow = a; count = count } }
 {
-    Taken::At {
+    Taken {
         arrow: a,
         count: count,
     }
@@ -316,7 +326,7 @@ fn leaf(
     here: Context,
     grammar: Grammar,
     l: Leaf,
-) -> Taken
+) -> Result<Taken, Full>
     requires { LeafAsks limits words.old counts.old stack.now here grammar l }
     ensures { LeafGives limits words.old words.new counts.new stack.now
         here grammar l result }
@@ -324,8 +334,8 @@ fn leaf(
     let count = here.count;
     let held = here.held;
     match l {
-        Leaf::False => unmoved(Table::NOTHING, count),
-        Leaf::True => unmoved(truth(words, grammar), count),
+        Leaf::False => Ok(unmoved(Table::NOTHING, count)),
+        Leaf::True => Ok(unmoved(truth(words, grammar), count)),
         Leaf::Now(p) => {
             let bit = live_step(words, counts, stack, limits, held, Step::Bit(2 * p), count);
             confined(words, counts, stack, limits, grammar, held, bit)
@@ -343,11 +353,11 @@ fn leaf(
         }
         Leaf::Var(p) => {
             let places = here.places;
-            unmoved(variable(stack, places, p), count)
+            Ok(unmoved(variable(stack, places, p), count))
         }
         Leaf::Reg(r) => {
             let h = Table::FIRST_REGISTER + (r as usize);
-            unmoved(root_arrow(words, h), count)
+            Ok(unmoved(root_arrow(words, h), count))
         }
     }
 }
@@ -362,7 +372,7 @@ fn over(
     relation: u32,
     a: u32,
     count: Count,
-) -> Taken
+) -> Result<Taken, Full>
     requires { OverAsks limits words.old counts.old roots.now relation a }
     ensures { OverGives limits words.old words.new counts.new roots.now
         m relation a count result }
@@ -387,7 +397,7 @@ fn reach(
     t: u32,
     x: u32,
     end: usize,
-) -> Evaluated
+) -> Result<Value, Stopped>
     requires { ReachAsks limits words.old counts.old stack.now here t x end }
     ensures { ReachGives limits words.old words.new counts.new stack.now
         here m t x end result }
@@ -410,23 +420,15 @@ fn every(
     t: u32,
     x: u32,
     end: usize,
-) -> Evaluated
+) -> Result<Value, Stopped>
     requires { FurtherAsks limits words.old counts.old stack.old here t x }
     ensures { FurtherGives limits words.old words.new counts.new stack.old
         stack.new here All t x end result }
 {
-    let first = reach(words, counts, stack, limits, here, Mode::All, t, x, end);
-    let Evaluated::Value {
-        arrow: a,
-        next: _,
-        count: counted,
-    } = first
-    else {
-        return first;
-    };
+    let first = reach(words, counts, stack, limits, here, Mode::All, t, x, end)?;
     let held = here.held;
-    stack[held] = a;
-    let rest = onward(here, here.at, counted);
+    stack[held] = first.arrow;
+    let rest = onward(here, here.at, first.count);
     let valid = root_arrow(words, Table::VALID);
     let second = reach(
         words,
@@ -439,7 +441,16 @@ fn every(
         valid,
         end,
     );
-    joined(words, counts, stack, limits, held, Join::And, a, second)
+    joined(
+        words,
+        counts,
+        stack,
+        limits,
+        held,
+        Join::And,
+        first.arrow,
+        second,
+    )
 }
 
 // What a round of until wants of the next states: diamond of the current set x, or box of it and diamond of true.
@@ -453,7 +464,7 @@ fn further(
     t: u32,
     x: u32,
     end: usize,
-) -> Evaluated
+) -> Result<Value, Stopped>
     requires { FurtherAsks limits words.old counts.old stack.old here t x }
     ensures { FurtherGives limits words.old words.new counts.new stack.old
         stack.new here m t x end result }
@@ -468,11 +479,10 @@ fn further(
 fn until_body(bytes: &[u8], limits: Limits, here: Context, m: Mode, t: u32) -> Body
     ensures { UntilPost limits bytes.now here m t result }
 {
-    let Pass::Past(middle, _) = syntax(bytes, limits.bits, Grammar::Runs, here.at, here.depth)
-    else {
+    let Some(first) = syntax(bytes, limits.bits, Grammar::Runs, here.at, here.depth) else {
         return Body::Until(m, t, here.at);
     };
-    Body::Until(m, t, middle)
+    Body::Until(m, t, first.next)
 }
 
 // Evaluates the formula at the context's place, of depth at most its depth: one of pairs, or of states and runs.
@@ -485,13 +495,13 @@ fn eval(
     limits: Limits,
     here: Context,
     grammar: Grammar,
-) -> Evaluated
+) -> Result<Value, Stopped>
     requires { EvalAsks limits words.old counts.old stack.old bytes.now here grammar }
     ensures { EvalGives limits words.old words.new counts.new stack.old
         stack.new bytes.now here grammar result }
 {
-    let Lead::Is(t) = lead_at(bytes, limits.bits, grammar, here.at) else {
-        return Evaluated::Full;
+    let Some(t) = lead_at(bytes, limits.bits, grammar, here.at) else {
+        return Err(Stopped::Full);
     };
     let mut part = here;
     part.at = here.at + 1;
@@ -524,24 +534,17 @@ fn negate(
     limits: Limits,
     here: Context,
     grammar: Grammar,
-) -> Evaluated
+) -> Result<Value, Stopped>
     requires { EvalAsks limits words.old counts.old stack.old bytes.now here grammar }
     ensures { NegateGives limits words.old words.new counts.new stack.old
         stack.new bytes.now here grammar result }
 {
-    let part = eval(words, counts, stack, bytes, limits, here, grammar);
-    let Evaluated::Value {
-        arrow: a,
-        next: end,
-        count: counted,
-    } = part
-    else {
-        return part;
-    };
+    let part = eval(words, counts, stack, bytes, limits, here, grammar)?;
     let held = here.held;
-    let inverse = live_step(words, counts, stack, limits, held, Step::Not(a), counted);
+    let step = Step::Not(part.arrow);
+    let inverse = live_step(words, counts, stack, limits, held, step, part.count);
     let taken = confined(words, counts, stack, limits, grammar, held, inverse);
-    answer(taken, end)
+    answer(taken, part.next)
 }
 
 // Evaluates the two formulas from the context's place on, the first one's value being live meanwhile, and takes the step AND or OR.
@@ -555,25 +558,17 @@ fn both(
     here: Context,
     grammar: Grammar,
     j: Join,
-) -> Evaluated
+) -> Result<Value, Stopped>
     requires { BothAsks limits words.old counts.old stack.old bytes.now here grammar }
     ensures { BothGives limits words.old words.new counts.new stack.old
         stack.new bytes.now here grammar j result }
 {
-    let first = eval(words, counts, stack, bytes, limits, here, grammar);
-    let Evaluated::Value {
-        arrow: a,
-        next: middle,
-        count: counted,
-    } = first
-    else {
-        return first;
-    };
+    let first = eval(words, counts, stack, bytes, limits, here, grammar)?;
     let held = here.held;
-    stack[held] = a;
-    let rest = onward(here, middle, counted);
+    stack[held] = first.arrow;
+    let rest = onward(here, first.next, first.count);
     let second = eval(words, counts, stack, bytes, limits, rest, grammar);
-    joined(words, counts, stack, limits, held, j, a, second)
+    joined(words, counts, stack, limits, held, j, first.arrow, second)
 }
 
 // Evaluates the formula at the context's place, and takes the steps of box or diamond over relation t.
@@ -587,20 +582,12 @@ fn modal(
     here: Context,
     m: Mode,
     t: u32,
-) -> Evaluated
+) -> Result<Value, Stopped>
     requires { ModeAsks limits words.old counts.old stack.old bytes.now here t }
     ensures { ModeGives limits words.old words.new counts.new stack.old
         stack.new bytes.now here m t result }
 {
-    let part = eval(words, counts, stack, bytes, limits, here, Grammar::Runs);
-    let Evaluated::Value {
-        arrow: a,
-        next: end,
-        count: counted,
-    } = part
-    else {
-        return part;
-    };
+    let part = eval(words, counts, stack, bytes, limits, here, Grammar::Runs)?;
     let h = Table::FIRST_RELATION + (t as usize);
     let relation = root_arrow(words, h);
     let held = here.held;
@@ -611,10 +598,10 @@ fn modal(
         &stack[..held],
         m,
         relation,
-        a,
-        counted,
+        part.arrow,
+        part.count,
     );
-    answer(taken, end)
+    answer(taken, part.next)
 }
 
 // Rounds of the body, variable p being the current set, which is live; until a round gives the same set again.
@@ -627,7 +614,7 @@ fn bind(
     limits: Limits,
     here: Context,
     body: Body,
-) -> Evaluated
+) -> Result<Value, Stopped>
     requires { BindAsks limits words.old counts.old stack.old bytes.now here body }
     ensures { BindGives limits words.old words.new counts.new stack.old
         stack.new bytes.now here body result }
@@ -635,25 +622,18 @@ fn bind(
     let held = here.held;
     let mut current = start_of(body, root_arrow(words, Table::VALID));
     let mut counted = here.count;
+    // Not a for: the rounds of inner binders count too, so that a turn may count many.
     while counted.rounds < limits.rounds {
         stack[held] = current;
         let inner = opened(here, variable_of(body), another_round(counted));
-        let value = turn(words, counts, stack, bytes, limits, inner, body, current);
-        let Evaluated::Value {
-            arrow: a,
-            next: _,
-            count: total,
-        } = value
-        else {
-            return value;
-        };
-        if a == current {
-            return value;
+        let value = turn(words, counts, stack, bytes, limits, inner, body, current)?;
+        if value.arrow == current {
+            return Ok(value);
         }
-        current = a;
-        counted = total;
+        current = value.arrow;
+        counted = value.count;
     }
-    Evaluated::Spent
+    Err(Stopped::Spent)
 }
 
 // Evaluates the body once, x being the current set.
@@ -667,7 +647,7 @@ fn turn(
     here: Context,
     body: Body,
     x: u32,
-) -> Evaluated
+) -> Result<Value, Stopped>
     requires { TurnAsks limits words.old counts.old stack.old bytes.now here body x }
     ensures { TurnGives limits words.old words.new counts.new stack.old
         stack.new bytes.now here body x result }
@@ -694,25 +674,26 @@ fn keep(
     t: u32,
     x: u32,
     end: usize,
-) -> Evaluated
+) -> Result<Value, Stopped>
     requires { KeepAsks limits words.old counts.old stack.old bytes.now here t x }
     ensures { KeepGives limits words.old words.new counts.new stack.old
         stack.new bytes.now here m t x end result }
 {
-    let first = eval(words, counts, stack, bytes, limits, here, Grammar::Runs);
-    let Evaluated::Value {
-        arrow: a,
-        next: _,
-        count: counted,
-    } = first
-    else {
-        return first;
-    };
+    let first = eval(words, counts, stack, bytes, limits, here, Grammar::Runs)?;
     let held = here.held;
-    stack[held] = a;
-    let rest = onward(here, here.at, counted);
+    stack[held] = first.arrow;
+    let rest = onward(here, here.at, first.count);
     let second = further(words, counts, stack, limits, rest, m, t, x, end);
-    joined(words, counts, stack, limits, held, Join::And, a, second)
+    joined(
+        words,
+        counts,
+        stack,
+        limits,
+        held,
+        Join::And,
+        first.arrow,
+        second,
+    )
 }
 
 // A round of until with the current set x: evaluates g at `middle` and, its value being live meanwhile, f and what is wanted of the next
@@ -729,27 +710,30 @@ fn round(
     m: Mode,
     t: u32,
     x: u32,
-) -> Evaluated
+) -> Result<Value, Stopped>
     requires { RoundAsks limits words.old counts.old stack.old bytes.now here middle t x }
     ensures { RoundGives limits words.old words.new counts.new stack.old
         stack.new bytes.now here middle m t x result }
 {
     let mut goal = here;
     goal.at = middle;
-    let first = eval(words, counts, stack, bytes, limits, goal, Grammar::Runs);
-    let Evaluated::Value {
-        arrow: a,
-        next: end,
-        count: counted,
-    } = first
-    else {
-        return first;
-    };
+    let first = eval(words, counts, stack, bytes, limits, goal, Grammar::Runs)?;
     let held = here.held;
-    stack[held] = a;
-    let rest = onward(here, here.at, counted);
-    let second = keep(words, counts, stack, bytes, limits, rest, m, t, x, end);
-    joined(words, counts, stack, limits, held, Join::Or, a, second)
+    stack[held] = first.arrow;
+    let rest = onward(here, here.at, first.count);
+    let second = keep(
+        words, counts, stack, bytes, limits, rest, m, t, x, first.next,
+    );
+    joined(
+        words,
+        counts,
+        stack,
+        limits,
+        held,
+        Join::Or,
+        first.arrow,
+        second,
+    )
 }
 
 // The pairs of an arrow within V: AND with V, SHIFT of V, AND with that.
@@ -760,28 +744,25 @@ fn within(
     limits: Limits,
     a: u32,
     count: Count,
-) -> Taken
+) -> Result<Taken, Full>
     requires { WithinAsks limits words.old counts.old stack.old a }
     ensures { WithinGives limits words.old words.new counts.new stack.old
         a count result }
 {
     let valid = root_arrow(words, Table::VALID);
-    let Taken::At {
-        arrow: b,
-        count: first,
-    } = live_step(words, counts, stack, limits, 0, Step::And(a, valid), count)
-    else {
-        return Taken::Full;
-    };
-    stack[0] = b;
-    let Taken::At {
-        arrow: c,
-        count: second,
-    } = live_step(words, counts, stack, limits, 1, Step::Shift(valid), first)
-    else {
-        return Taken::Full;
-    };
-    live_step(words, counts, stack, limits, 0, Step::And(b, c), second)
+    let first = live_step(words, counts, stack, limits, 0, Step::And(a, valid), count)?;
+    stack[0] = first.arrow;
+    let second = live_step(
+        words,
+        counts,
+        stack,
+        limits,
+        1,
+        Step::Shift(valid),
+        first.count,
+    )?;
+    let step = Step::And(first.arrow, second.arrow);
+    live_step(words, counts, stack, limits, 0, step, second.count)
 }
 
 // The context at a formula's start.
@@ -804,16 +785,12 @@ fn body_start(counted: Count) -> Context
     requires { counted.rounds < 4_294_967_295 }
     ensures { result ≡ body_start counted }
 {
-    let places = [0u8; Grammar::VARIABLES];
     Context {
         at: Frame::START + 1,
         depth: Table::DEPTH - 1,
         held: 1,
-        places: places,
-        count: Count {
-            rounds: counted.rounds + 1,
-            peak: counted.peak,
-        },
+        count: another_round(counted),
+        ..starting()
     }
 }
 
@@ -826,7 +803,7 @@ pub fn evaluate_round(
     limits: Limits,
     x: u32,
     counted: Count,
-) -> Evaluated
+) -> Result<Value, Stopped>
     requires { OnceAsks limits words.old counts.old stack.old bytes.now x counted }
     ensures { OnceGives limits words.old words.new counts.new stack.old
         stack.new bytes.now x counted result }
@@ -837,7 +814,7 @@ pub fn evaluate_round(
 }
 
 // Evaluates the set's formula in `bytes`, which has passed the checks, with nothing remembered before.
-pub fn evaluate_set(words: &mut [u32], limits: Limits, bytes: &[u8]) -> Evaluated
+pub fn evaluate_set(words: &mut [u32], limits: Limits, bytes: &[u8]) -> Result<Value, Stopped>
     requires { SetAsks limits words.old bytes.now }
     ensures { SetGives limits words.old words.new bytes.now result }
 {
@@ -858,7 +835,7 @@ pub fn evaluate_set(words: &mut [u32], limits: Limits, bytes: &[u8]) -> Evaluate
 }
 
 // Evaluates the formula of a relation or of valid in `bytes`, which has passed the checks, over all states, with nothing remembered before.
-pub fn evaluate_pairs(words: &mut [u32], limits: Limits, bytes: &[u8]) -> Taken
+pub fn evaluate_pairs(words: &mut [u32], limits: Limits, bytes: &[u8]) -> Result<Taken, Full>
     requires { PairsAsks limits words.old bytes.now }
     ensures { PairsGives limits words.old words.new bytes.now result }
 {
@@ -867,11 +844,7 @@ pub fn evaluate_pairs(words: &mut [u32], limits: Limits, bytes: &[u8]) -> Taken
     begin(words, limits.rows, &mut counts);
     let mut stack = [0u32; Stack::WORDS];
     let start = starting();
-    let Evaluated::Value {
-        arrow: a,
-        next: _,
-        count: c,
-    } = eval(
+    let Ok(value) = eval(
         words,
         &mut counts,
         &mut stack,
@@ -879,15 +852,14 @@ pub fn evaluate_pairs(words: &mut [u32], limits: Limits, bytes: &[u8]) -> Taken
         limits,
         start,
         Grammar::Pairs,
-    )
-    else {
-        return Taken::Full;
+    ) else {
+        return Err(Full);
     };
-    unmoved(a, c)
+    Ok(unmoved(value.arrow, value.count))
 }
 
 // Evaluates a relation's formula in `bytes`, which has passed the checks, within V, with nothing remembered before.
-pub fn evaluate_relation(words: &mut [u32], limits: Limits, bytes: &[u8]) -> Taken
+pub fn evaluate_relation(words: &mut [u32], limits: Limits, bytes: &[u8]) -> Result<Taken, Full>
     requires { PairsAsks limits words.old bytes.now }
     ensures { RelationGives limits words.old words.new bytes.now result }
 {
@@ -896,11 +868,7 @@ pub fn evaluate_relation(words: &mut [u32], limits: Limits, bytes: &[u8]) -> Tak
     begin(words, limits.rows, &mut counts);
     let mut stack = [0u32; Stack::WORDS];
     let start = starting();
-    let Evaluated::Value {
-        arrow: a,
-        next: _,
-        count: c,
-    } = eval(
+    let Ok(value) = eval(
         words,
         &mut counts,
         &mut stack,
@@ -908,9 +876,15 @@ pub fn evaluate_relation(words: &mut [u32], limits: Limits, bytes: &[u8]) -> Tak
         limits,
         start,
         Grammar::Pairs,
-    )
-    else {
-        return Taken::Full;
+    ) else {
+        return Err(Full);
     };
-    within(words, &mut counts, &mut stack, limits, a, c)
+    within(
+        words,
+        &mut counts,
+        &mut stack,
+        limits,
+        value.arrow,
+        value.count,
+    )
 }

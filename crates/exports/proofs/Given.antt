@@ -4,6 +4,7 @@ use mathlib.Core.List.{List}
 use lib.ListN.{length}
 use Prim.Native.Nat.{ℕ, zero, suc, ◌≤◌}
 use native.Mathlib.Omega.{arith}
+use Rattle.std.specs.Prelude.{Result, Ok, Err}
 use Rattle.layout.specs.Refusals.{refusal_number}
 use Rattle.layout.proofs.Refusals.{refusal-some}
 use Rattle.layout.specs.declared.Refusal.{Refusal}
@@ -13,16 +14,14 @@ use Rattle.book.specs.Tallies.{freshened}
 use Rattle.contract.specs.Posts.{FreshPost}
 use Rattle.account_calls.specs.Lists.{FreshListPost}
 use Rattle.calls.specs.Replies.{started_reply}
-use Rattle.calls.specs.declared.Started.{Started}
 use Rattle.calls.specs.Fresh.{FreshWords}
 use Rattle.calls.proofs.FreshLaws.{fresh-words-one}
-use Rattle.calls.specs.declared.Started.TheVariants.{Ready, Refused}
 use Rattle.exports.specs.Given.{given, FreshLeft, FreshGiven}
 
 -- one list of words, so with `fresh-one` (contract, OneAnswer) one answer; the other entry points' contracts are those of `call-one` and
 -- `ask-one`
 pub fresh-left-one : (n N : ℕ) (old v w : List ℕ) (k : ℕ) → FreshLeft n N old v k → FreshLeft n N old w k → v ≡ w
-fresh-left-one n N old v w zero p q = fresh-words-one n N old v w Ready p q
+fresh-left-one n N old v w zero p q = fresh-words-one n N old v w (Ok tt) p q
 fresh-left-one n N old v w (suc k) p q = p ∙ sym q
 
 -- a refusal's number is not 0, so a refused fresh keeps all words
@@ -33,7 +32,7 @@ left-refused n N old new e {k} is same = at k (omega (arith, is, refusal-some e)
     at zero h = absurd (omega arith)
     at (suc j) h = same
 
-pub fresh-given : (n N : ℕ) (old new : List ℕ) (before after : List Account) (x : Started) (k : ℕ)
+pub fresh-given : (n N : ℕ) (old new : List ℕ) (before after : List Account) (x : Result (Unit {0}) Refusal) (k : ℕ)
     → FreshListPost n N old new before after x → given k 0 0 0 ≡ started_reply x
     → FreshGiven n N old new before after k
 fresh-given n N old new before after x k p e = record {
@@ -42,6 +41,6 @@ fresh-given n N old new before after x k p e = record {
   list = p.list ∙ ap (freshened before) (sym e);
 }
   where
-    at : (y : Started) → FreshWords n N old new y → given k 0 0 0 ≡ started_reply y → FreshLeft n N old new k
-    at Ready w e = subst (FreshLeft n N old new) (sym (ap (λ (r : Reply). r.number) e)) w
-    at (Refused z) w e = left-refused n N old new z (ap (λ (r : Reply). r.number) e) w
+    at : (y : Result (Unit {0}) Refusal) → FreshWords n N old new y → given k 0 0 0 ≡ started_reply y → FreshLeft n N old new k
+    at (Ok _) w e = subst (FreshLeft n N old new) (sym (ap (λ (r : Reply). r.number) e)) w
+    at (Err z) w e = left-refused n N old new z (ap (λ (r : Reply). r.number) e) w

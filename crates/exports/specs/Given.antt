@@ -1,11 +1,10 @@
 -- What an entry point gives its caller, as the reply that the contracts speak of. Assumes nothing.
-use Rattle.std.specs.Prelude.{◌≡◌, List, length, ℕ, zero, suc}
+use Rattle.std.specs.Prelude.{◌≡◌, List, length, ℕ, zero, suc, Ok}
 use Rattle.accounts.specs.declared.Account.{Account}
 use Rattle.book.specs.Table.{Reply}
 use Rattle.book.specs.Tallies.{freshened}
 use Rattle.contract.specs.Posts.{FreshPost}
 use Rattle.calls.specs.Fresh.{FreshWords}
-use Rattle.calls.specs.declared.Started.TheVariants.{Ready}
 use Rattle.coins.specs.Post.{FareReply}
 
 -- the returned number, and the rounds, the peak and the value that are written
@@ -18,7 +17,7 @@ fare_given k t c s = record { number = k; total = t; charge = c; states = s }
 
 -- the words that fresh leaves, by its number
 abbrev pub FreshLeft : ℕ → ℕ → List ℕ → List ℕ → ℕ → Type 0
-FreshLeft n N old new zero = FreshWords n N old new Ready
+FreshLeft n N old new zero = FreshWords n N old new (Ok tt)
 FreshLeft n N old new (suc k) = new ≡ old
 
 -- fresh by its number: the table, the words that it leaves, and the tallies

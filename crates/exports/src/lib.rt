@@ -1,12 +1,13 @@
 // The entry points for C and Rust. Each returns a refusal's number or 0, and writes its other answers, zeros where it is refused.
 #![tactic(auto)]
 
-ghost use Rattle.std.specs.Prelude.{◌≡◌};
+ghost use Rattle.std.specs.Prelude.{◌≡◌, Err};
 ghost use Rattle.book.specs.Book as book;
 ghost use Rattle.batch_calls.specs.Posts.{BatchPost};
 ghost use Rattle.calls.specs.Replies.{answer_reply, started_reply};
 ghost use Rattle.coins.specs.Post.{FarePost};
 ghost use Rattle.contract.specs.Posts.{CallPost, AskPost, SetAllPost};
+ghost use Rattle.formula.specs.Checks.{number_of};
 ghost use Rattle.formula_steps.specs.Replies.{stored_reply};
 ghost use Rattle.game_calls.specs.Post.{ReactPost};
 ghost use Rattle.log_calls.specs.Post.{LogPost};
@@ -14,29 +15,42 @@ ghost use Rattle.path_calls.specs.Post.{PathPost};
 ghost use Rattle.exports.specs.Given.{given, fare_given, FreshGiven};
 ghost use Rattle.exports.specs.Games.{ForceAllPost, ReactAllPost};
 ghost use Rattle.exports.specs.Check.{kind_of, CheckPost};
-ghost use Rattle.exports.specs.Playing.{PlayGiven};
+ghost use Rattle.exports.specs.Playing.{PlayGiven, play_number};
 
 use account_calls::terms_at;
 use accounts::{Account, Terms};
-use calls::{Answer, Cleared, Collected, Started};
-use coins::Fare;
-use formula::{Checked, check_formula};
-use formula_steps::{Confined, Loaded, Stored};
-use game_calls::{Response, game_bytes, game_target};
-use layout::{Refusal, Table, header_word, refusal_number};
-use moments::Logged;
-use player::Played;
-use routes::Found;
+use formula::check_formula;
+use formula_steps::Stored;
+use game_calls::{game_bytes, game_target};
+use layout::{Refusal, Table, header_word};
+use player::Unplayed;
 use soundness::sound;
 use tokens::Kind;
 
-// The number of what fresh answers.
-fn started_number(x: Started) -> u32
-    ensures { given result 0 0 0 ≡ started_reply x }
+// The number of an answer without a value: 0, or its refusal's.
+fn number_of(x: Result<(), Refusal>) -> u32
+    ensures reply { given result 0 0 0 ≡ started_reply x }
+    ensures number { result ≡ number_of x }
 {
     match x {
-        Started::Ready => 0,
-        Started::Refused(e) => refusal_number(e),
+        Ok(()) => 0,
+        Err(e) => u32::from(e),
+    }
+}
+
+// Gives an answer's value, 0 of a refused one.
+fn give(x: Result<u32, Refusal>, value: &mut u32) -> u32
+    ensures { given result 0 0 value.new ≡ answer_reply x }
+{
+    match x {
+        Ok(v) => {
+            *value = v;
+            0
+        }
+        Err(e) => {
+            *value = 0;
+            u32::from(e)
+        }
     }
 }
 
@@ -50,8 +64,7 @@ pub extern "C" fn kudzuclamp_fresh(
 ) -> u32
     ensures { FreshGiven n rows words.old words.new accounts.old accounts.new result }
 {
-    let x = account_calls::fresh(words, accounts, n, rows);
-    started_number(x)
+    number_of(account_calls::fresh(words, accounts, n, rows))
 }
 
 // Relation t holds the pairs of a formula; gives its peak.
@@ -68,11 +81,11 @@ pub extern "C" fn kudzuclamp_relation(
     let x = formula_calls::relation(words, t, bytes);
     *peak = 0;
     match x {
-        Loaded::Done { peak: p } => {
-            *peak = p;
+        Ok(loaded) => {
+            *peak = loaded.peak;
             0
         }
-        Loaded::Refused(e) => refusal_number(e),
+        Err(e) => u32::from(e),
     }
 }
 
@@ -81,33 +94,25 @@ pub extern "C" fn kudzuclamp_relation(
 pub extern "C" fn kudzuclamp_valid(words: &mut [u32], bytes: &[u8]) -> u32
     ensures { CallPost (book.valid bytes.now) words.old words.new (given result 0 0 0) }
 {
-    let x = formula_calls::valid(words, bytes);
-    match x {
-        Confined::Done => 0,
-        Confined::Refused(e) => refusal_number(e),
-    }
+    number_of(formula_calls::valid(words, bytes))
 }
 
 // Gives the node number, the rounds and the peak of an answered set, zeros of a refused one.
-fn give_stored(x: Stored, node: &mut u32, rounds: &mut u32, peak: &mut u32) -> u32
+fn give_stored(x: Result<Stored, Refusal>, node: &mut u32, rounds: &mut u32, peak: &mut u32) -> u32
     ensures { given result rounds.new peak.new node.new ≡ stored_reply x }
 {
     match x {
-        Stored::Node {
-            number: a,
-            rounds: q,
-            peak: p,
-        } => {
-            *node = a;
-            *rounds = q;
-            *peak = p;
+        Ok(stored) => {
+            *node = stored.number;
+            *rounds = stored.rounds;
+            *peak = stored.peak;
             0
         }
-        Stored::Refused(e) => {
+        Err(e) => {
             *node = 0;
             *rounds = 0;
             *peak = 0;
-            refusal_number(e)
+            u32::from(e)
         }
     }
 }
@@ -139,11 +144,7 @@ pub extern "C" fn kudzuclamp_set(
 pub extern "C" fn kudzuclamp_clear(words: &mut [u32], r: u32) -> u32
     ensures { CallPost (book.clear r) words.old words.new (given result 0 0 0) }
 {
-    let x = calls::clear(words, r);
-    match x {
-        Cleared::Done => 0,
-        Cleared::Refused(e) => refusal_number(e),
-    }
+    number_of(calls::clear(words, r))
 }
 
 // Frees the rows that neither V nor a register or relation needs; gives how many are needed.
@@ -151,33 +152,7 @@ pub extern "C" fn kudzuclamp_clear(words: &mut [u32], r: u32) -> u32
 pub extern "C" fn kudzuclamp_collect(words: &mut [u32], rows: &mut u32) -> u32
     ensures { CallPost book.collect words.old words.new (given result 0 0 rows.new) }
 {
-    let x = calls::collect(words);
-    match x {
-        Collected::Rows(v) => {
-            *rows = v;
-            0
-        }
-        Collected::Refused(e) => {
-            *rows = 0;
-            refusal_number(e)
-        }
-    }
-}
-
-// Gives a question's value.
-fn give(x: Answer, value: &mut u32) -> u32
-    ensures { given result 0 0 value.new ≡ answer_reply x }
-{
-    match x {
-        Answer::Value(v) => {
-            *value = v;
-            0
-        }
-        Answer::Refused(e) => {
-            *value = 0;
-            refusal_number(e)
-        }
-    }
+    give(calls::collect(words), rows)
 }
 
 // Gives the node number in register r.
@@ -237,17 +212,7 @@ pub extern "C" fn kudzuclamp_shortest(
     ensures { PathPost a b t words.old words.new list.old list.new
         (given result 0 0 states.new) }
 {
-    let x = path_calls::shortest(words, list, a, b, t);
-    match x {
-        Found::States(c) => {
-            *states = c;
-            0
-        }
-        Found::Refused(e) => {
-            *states = 0;
-            refusal_number(e)
-        }
-    }
+    give(path_calls::shortest(words, list, a, b, t), states)
 }
 
 // Writes the states of a cheapest run from register a into register b over any mix of filled relations, and the relation of each step, to
@@ -271,21 +236,17 @@ pub extern "C" fn kudzuclamp_cheapest(
 {
     let x = coin_calls::cheapest(words, prices, work, states, relations, a, b);
     match x {
-        Fare::Paid {
-            total: t,
-            charge: c,
-            states: s,
-        } => {
-            *total = t;
-            *charge = c;
-            *count = s;
+        Ok(fare) => {
+            *total = fare.total;
+            *charge = fare.charge;
+            *count = fare.states;
             0
         }
-        Fare::Refused(e) => {
+        Err(e) => {
             *total = 0;
             *charge = 0;
             *count = 0;
-            refusal_number(e)
+            u32::from(e)
         }
     }
 }
@@ -332,17 +293,10 @@ fn react_under(
     ensures { ReactPost terms most goal guest machine state press words.old words.new
         (given result 0 0 answer.new) }
 {
-    let x = game_calls::react(words, terms, most, goal, guest, machine, state, press);
-    match x {
-        Response::State(u) => {
-            *answer = u;
-            0
-        }
-        Response::Refused(e) => {
-            *answer = 0;
-            refusal_number(e)
-        }
-    }
+    give(
+        game_calls::react(words, terms, most, goal, guest, machine, state, press),
+        answer,
+    )
 }
 
 // Gives the state that the machine answers a guest's press with, in a state from which it can force the goal; the rounds are made again
@@ -382,14 +336,11 @@ pub extern "C" fn kudzuclamp_logged(
     ensures { LogPost t one.now two.now words.old words.new
         list.old list.new (given result 0 0 0) }
 {
-    let x = log_calls::logged(words, list, t, one, two);
-    match x {
-        Logged::Done => 0,
-        Logged::Refused(e) => refusal_number(e),
-    }
+    number_of(log_calls::logged(words, list, t, one, two))
 }
 
 // The call that formula bytes are for: set at 0, else relation.
+// No From: 0 and all other numbers of one parameter of C.
 fn kind_of(relation: u32) -> Kind
     ensures { result ≡ kind_of relation }
 {
@@ -405,13 +356,10 @@ pub extern "C" fn kudzuclamp_check<'a>(words: &'a [u32], relation: u32, bytes: &
     ensures { CheckPost (kind_of relation) words.now bytes.now result }
 {
     if !sound(words) {
-        return refusal_number(Refusal::Unsound);
+        return u32::from(Refusal::Unsound);
     }
     let n = header_word(words, Table::BITS);
-    match check_formula(bytes, kind_of(relation), n, words) {
-        Checked::Fit => 0,
-        Checked::Refused(e) => refusal_number(e),
-    }
+    number_of(check_formula(bytes, kind_of(relation), n, words))
 }
 
 // The numbers of `kudzuclamp_play`'s own refusals.
@@ -422,6 +370,16 @@ impl Playing {
     pub const SHORT: u32 = 100;
 
     pub const UNREADABLE: u32 = 101;
+}
+
+// The number of a reason not to play.
+fn unplayed_number(e: Unplayed) -> u32
+    ensures { result ≡ play_number (Err e) }
+{
+    match e {
+        Unplayed::Short => Playing::SHORT,
+        Unplayed::Unreadable => Playing::UNREADABLE,
+    }
 }
 
 // Plays the calls of all records in order, and writes number, node, rounds, value and peak of each to the list; gives how many records
@@ -438,17 +396,13 @@ pub extern "C" fn kudzuclamp_play(
 {
     let x = player::play(words, bytes, list);
     match x {
-        Played::Done(n) => {
+        Ok(n) => {
             *count = n;
             0
         }
-        Played::Short => {
+        Err(e) => {
             *count = 0;
-            Playing::SHORT
-        }
-        Played::Unreadable => {
-            *count = 0;
-            Playing::UNREADABLE
+            unplayed_number(e)
         }
     }
 }

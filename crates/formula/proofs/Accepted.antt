@@ -1,4 +1,5 @@
 -- Check 4 accepts exactly the frames of formulas: the theorem over the whole slice, both directions. Assumes nothing.
+use Rattle.std.specs.Prelude.{Option, Some, None}
 use mathlib.Core.Logic.{◌↔◌}
 use mathlib.Core.Path.{◌≡◌, refl, sym, ap, ◌∙◌}
 use mathlib.Core.Bool.{Bool, true, false, cond}
@@ -15,8 +16,6 @@ use Rattle.mucalculus.proofs.Form.{depth}
 use Rattle.tokens.specs.Tokens.{grammar_of}
 use Rattle.tokens.specs.declared.Kind.{Kind}
 use Rattle.tokens.specs.declared.Grammar.{Grammar}
-use Rattle.tokens.specs.declared.Reading.{Reading}
-use Rattle.tokens.specs.declared.Reading.TheVariants.{Is as Reading-is, Unknown}
 use Rattle.formula.specs.Parse.{Got, fails, got, is_formula, parse, depth_limit, length_of, framed, filling, formula_by, formula_of}
 use Rattle.formula.proofs.Bytes.{bytes_of, takes, frame_of, Framing}
 use Rattle.formula.proofs.Steps.{not-got}
@@ -30,7 +29,7 @@ use Rattle.formula.proofs.Written.{tree, read-written, read-deep, read_taken, wr
 pub record Found (k : Kind) (n : ℕ) (bs : List ℕ) (f : Form) (e : ℕ) : Type 0 where
   pub grammar : Grammar
   pub in_frame : framed bs ≡ true
-  pub known : grammar_of k (get_or bs 2 0) ≡ Reading-is grammar
+  pub known : grammar_of k (get_or bs 2 0) ≡ Some grammar
   pub parsed : parse n grammar depth_limit bs 3 ≡ got f e
   pub full : e ≡ length bs
 
@@ -47,13 +46,13 @@ module _ (k : Kind) (n : ℕ) (bs : List ℕ) (f : Form) where
   unfolding formula_of
   found {e} z = in-frame-or (framed bs) refl z
     where
-      by_grammar : (r : Reading) → grammar_of k (get_or bs 2 0) ≡ r → framed bs ≡ true → formula_by n bs r ≡ got f e → Found k n bs f e
-      by_grammar Unknown h fr q = absurd (not-got q)
-      by_grammar (Reading-is g) h fr q =
+      by_grammar : (r : Option Grammar) → grammar_of k (get_or bs 2 0) ≡ r → framed bs ≡ true → formula_by n bs r ≡ got f e → Found k n bs f e
+      by_grammar None h fr q = absurd (not-got q)
+      by_grammar (Some g) h fr q =
           let p = filling-got (length bs) (parse n g depth_limit bs 3) q in
           record { grammar = g; in_frame = fr; known = h; parsed = p.0; full = p.1 }
 
-      in-frame-or : (c : Bool) → framed bs ≡ c → formula_by n bs (cond c (grammar_of k (get_or bs 2 0)) Unknown) ≡ got f e → Found k n bs f e
+      in-frame-or : (c : Bool) → framed bs ≡ c → formula_by n bs (cond c (grammar_of k (get_or bs 2 0)) None) ≡ got f e → Found k n bs f e
       in-frame-or true h q = by_grammar (grammar_of k (get_or bs 2 0)) refl h q
       in-frame-or false h q = absurd (not-got q)
 
@@ -113,7 +112,7 @@ module _ (v : ℕ) (f : Form) where
       )
 
 module _ (k : Kind) (n : ℕ) (bs : List ℕ) (f : Form) where
-  frame_accepted : (v : ℕ) (g : Grammar) → grammar_of k v ≡ Reading-is g → depth f ≤ depth_limit → takes n g f ≡ true
+  frame_accepted : (v : ℕ) (g : Grammar) → grammar_of k v ≡ Some g → depth f ≤ depth_limit → takes n g f ≡ true
       → length (bytes_of f) ≤ 1023 → formula_of k n (frame_of v f) ≡ got f (length (frame_of v f))
   unfolding formula_of
   frame_accepted v g known deep taken short =

@@ -1,4 +1,5 @@
 -- The bytes of a formula, from its tree: what the reading undoes. Definitions alone.
+use Rattle.std.specs.Prelude.{Some}
 use Prim.Native.Nat.{ℕ, ◌+◌, ◌/◌, ◌%◌, ◌≤◌}
 use mathlib.Core.Path.{◌≡◌}
 use mathlib.Core.Bool.{Bool, true, false, ◌&&◌}
@@ -10,10 +11,9 @@ use Rattle.mucalculus.proofs.Form.{depth}
 use Rattle.tokens.specs.Tokens.{grammar_of, allowed}
 use Rattle.tokens.specs.declared.Kind.{Kind}
 use Rattle.tokens.specs.declared.Grammar.{Grammar}
-use Rattle.tokens.specs.declared.Reading.TheVariants.{Is as Reads}
 use Rattle.tokens.specs.declared.Leaf.TheVariants.{False, True, Now, Next, Var, Reg}
 use Rattle.tokens.specs.declared.Join.TheVariants.{And, Or}
-use Rattle.tokens.specs.declared.Mode.TheVariants.{All, Some}
+use Rattle.tokens.specs.declared.Mode.TheVariants as mode
 use Rattle.tokens.specs.declared.Fix.TheVariants.{Mu, Nu}
 use Rattle.tokens.specs.declared.Two.TheVariants.{Join as Joins, Until}
 use Rattle.tokens.specs.declared.Token.TheVariants.{Leaf as LeafToken, Not, Both, Modal, Binder}
@@ -48,12 +48,12 @@ takes n g (now p) = ltb p 16 && allowed (LeafToken (Now p)) n g
 takes n g (next p) = ltb p 16 && allowed (LeafToken (Next p)) n g
 takes n g (var P) = ltb P 16 && allowed (LeafToken (Var P)) n g
 takes n g (reg r) = ltb r 32 && allowed (LeafToken (Reg r)) n g
-takes n g (box t f) = (ltb t 8 && allowed (Modal All t) n g) && takes n g f
-takes n g (dia t f) = (ltb t 8 && allowed (Modal Some t) n g) && takes n g f
+takes n g (box t f) = (ltb t 8 && allowed (Modal mode.All t) n g) && takes n g f
+takes n g (dia t f) = (ltb t 8 && allowed (Modal mode.Some t) n g) && takes n g f
 takes n g (mu P f) = (ltb P 16 && allowed (Binder Mu P) n g) && takes n g f
 takes n g (nu P f) = (ltb P 16 && allowed (Binder Nu P) n g) && takes n g f
-takes n g (until true t f h) = (ltb t 8 && allowed (Both (Until Some t)) n g) && (takes n g f && takes n g h)
-takes n g (until false t f h) = (ltb t 8 && allowed (Both (Until All t)) n g) && (takes n g f && takes n g h)
+takes n g (until true t f h) = (ltb t 8 && allowed (Both (Until mode.Some t)) n g) && (takes n g f && takes n g h)
+takes n g (until false t f h) = (ltb t 8 && allowed (Both (Until mode.All t)) n g) && (takes n g f && takes n g h)
 
 -- "Two length bytes L, big-endian ..; then L bytes: version 1, then one formula in prefix order"
 abbrev pub frame_of : ℕ → Form → List ℕ
@@ -63,7 +63,7 @@ frame_of version f = (1 + length (bytes_of f)) / 256 ∷ (1 + length (bytes_of f
 pub record Framing (k : Kind) (n : ℕ) (bs : List ℕ) (f : Form) : Type 0 where
   pub version : ℕ
   pub grammar : Grammar
-  pub known : grammar_of k version ≡ Reads grammar
+  pub known : grammar_of k version ≡ Some grammar
   pub is : bs ≡ frame_of version f
   pub deep : depth f ≤ depth_limit
   pub taken : takes n grammar f ≡ true

@@ -1,4 +1,5 @@
 -- What the pass of checks 5 and 12 answers, by the token at its place: an equation for each kind of token. Assumes nothing.
+use Rattle.std.specs.Prelude.{Option, Some, None}
 use mathlib.Core.Path.{◌≡◌, refl, sym, ap, ap₂, ◌∙◌}
 use mathlib.Core.Bool.{Bool, true, false, not, ◌&&◌, ◌||◌, cond, not-not}
 use mathlib.Core.List.{List}
@@ -20,12 +21,9 @@ use Rattle.tokens.specs.declared.Fix.{Fix}
 use Rattle.tokens.specs.declared.Two.{Two}
 use Rattle.tokens.specs.declared.Token.{Token}
 use Rattle.tokens.specs.declared.Token.TheVariants.{Leaf as LeafToken, Both, Binder}
-use Rattle.tokens.specs.declared.Lead.{Lead}
-use Rattle.tokens.specs.declared.Lead.TheVariants.{Is, Bad}
 use Rattle.formula.specs.Parse.{leaf_form, two_form, modal_form, binder_form, Got, fails, got, one, two, grown, parse}
-use Rattle.formula.specs.Scans.{bits, mask, free_in, scan_of, joined_of, without, closed_of}
+use Rattle.formula.specs.Scans.{scanned, bits, mask, free_in, scan_of, joined_of, without, closed_of}
 use Rattle.formula.specs.declared.Scan.{Scan}
-use Rattle.formula.specs.declared.Scan.TheVariants.{Past, Refused4}
 use Rattle.formula.proofs.Steps.{Unary, parse-zero, parse-at, grown_unary}
 use Rattle.formula.proofs.Shapes.{bound-neg, bound-join, bound-modal, bound_binder, mentioned-neg, mentioned-join, mentioned-modal}
 use Rattle.formula.proofs.Shapes.{mentioned_binder, lacks-neg, lacks-join, lacks-modal, lacks_binder}
@@ -70,10 +68,27 @@ free_binder x P f h = mask-same 16 (λ Q. ap not (lacks_binder Q x P f) ∙ not-
 
 -- ---- what the pass says of an operator
 
-past_is : {e : ℕ} {b b' m m' : Bool} {w w' : ℕ} → b ≡ b' → m ≡ m' → w ≡ w' → Past e b m w ≡ Past e b' m' w'
+past_is : {e : ℕ} {b b' m m' : Bool} {w w' : ℕ} → b ≡ b' → m ≡ m' → w ≡ w' → Some (scanned e b m w) ≡ Some (scanned e b' m' w')
 past_is {e} hb hm hw = rw (hb, hm, hw)
 
-pub not-past : {e : ℕ} {b m : Bool} {w : ℕ} → Refused4 ≡ Past e b m w → ⊥
+-- the parts of an answer
+abbrev pub place_of : Option Scan → ℕ
+place_of None = 0
+place_of (Some s) = s.next
+
+abbrev pub bound_of : Option Scan → Bool
+bound_of None = false
+bound_of (Some s) = s.bound
+
+abbrev pub named_of : Option Scan → Bool
+named_of None = false
+named_of (Some s) = s.named
+
+abbrev free_of : Option Scan → ℕ
+free_of None = 0
+free_of (Some s) = s.free
+
+pub not-past : {e : ℕ} {b m : Bool} {w : ℕ} → None ≡ Some (scanned e b m w) → ⊥
 not-past z = let y : ◌≡◌ {A = ℕ} 0 1 = cc in omega arith
 
 -- an operator of one part that binds nothing says what its part does
@@ -106,18 +121,18 @@ scan_second : (w : Two) (scope : ℕ) (f : Form) (p : Got)
 scan_second w scope f fails = refl
 scan_second w scope f (got g e) = sym (past_is (bound-join _ w f g) (mentioned-join w f g) (free-join w f g))
 
-scan_two : (w : Two) (scope : ℕ) (read : ℕ → Got) {mid : ℕ} {b m : Bool} {v : ℕ} (p : Got) → scan_of scope p ≡ Past mid b m v
+scan_two : (w : Two) (scope : ℕ) (read : ℕ → Got) {mid : ℕ} {b m : Bool} {v : ℕ} (p : Got) → scan_of scope p ≡ Some (scanned mid b m v)
     → joined_of b m v (scan_of scope (read mid)) ≡ scan_of scope (two (two_form w) read p)
 scan_two w scope read fails z = absurd (not-past z)
 scan_two w scope read {mid} {b} {m} {v} (got f e) z =
-    let place : e ≡ mid = cc in
-    let five : bound (bits 16 scope) f ≡ b = cc in
-    let twelve : mentioned f ≡ m = cc in
-    let free : free_in f ≡ v = cc in
+    let place : e ≡ mid = ap place_of z in
+    let five : bound (bits 16 scope) f ≡ b = ap bound_of z in
+    let twelve : mentioned f ≡ m = ap named_of z in
+    let free : free_in f ≡ v = ap free_of z in
     rw (← place, ← five, ← twelve, ← free) (scan_second w scope f (read e))
 
-scan_two_bad : (w : Two) (scope : ℕ) (read : ℕ → Got) (p : Got) → scan_of scope p ≡ Refused4
-    → Refused4 ≡ scan_of scope (two (two_form w) read p)
+scan_two_bad : (w : Two) (scope : ℕ) (read : ℕ → Got) (p : Got) → scan_of scope p ≡ None
+    → None ≡ scan_of scope (two (two_form w) read p)
 scan_two_bad w scope read fails z = refl
 scan_two_bad w scope read (got f e) z = absurd (not-past (sym z))
 
@@ -125,26 +140,26 @@ scan_two_bad w scope read (got f e) z = absurd (not-past (sym z))
 
 -- the pass at a leaf: a variable is below 16
 pub scan_leaf : (scope next : ℕ) {l : Leaf} → ((P : ℕ) → l ≡ Var P → P < 16) → {P : ℕ} → l ≡ Var P → {b : Bool} → b ≡ bit P scope → {w : ℕ}
-    → w ≡ 2 ^ P → Past next b true w ≡ scan_of scope (got (leaf_form l) next)
+    → w ≡ 2 ^ P → Some (scanned next b true w) ≡ scan_of scope (got (leaf_form l) next)
 unfolding bound mentioned lacks
 scan_leaf scope next {l} small {P} e hb hw =
     rw e (past_is (hb ∙ sym (bits-has 16 scope P (small P e))) refl
     (hw ∙ mask_one 16 P (small P e) ∙ mask-same 16 (λ Q. sym (not-not (eqb P Q)))))
 
 -- the answer on a binder of P, by whether P is free in its body
-module _ (fresh : Bool) (P : ℕ) {body : Scan} {e : ℕ} {b m : Bool} {w : ℕ} (is : body ≡ Past e b m w) {h : Bool} (has : h ≡ bit P w) where
-  closing : {c : Bool} → h ≡ c → Past e (fresh && b) (c && m) (cond c (bit_xor w (2 ^ P)) w) ≡ closed_of fresh P body
+module _ (fresh : Bool) (P : ℕ) {body : Option Scan} {e : ℕ} {b m : Bool} {w : ℕ} (is : body ≡ Some (scanned e b m w)) {h : Bool} (has : h ≡ bit P w) where
+  closing : {c : Bool} → h ≡ c → Some (scanned e (fresh && b) (c && m) (cond c (bit_xor w (2 ^ P)) w)) ≡ closed_of fresh P body
   closing {c} k =
-      sym (ap (closed_of fresh P) is ∙ ap (λ (x : Bool). Past e (fresh && b) (x && m) (cond x (bit_xor w (2 ^ P)) w)) (sym has ∙ k))
+      sym (ap (closed_of fresh P) is ∙ ap (λ (x : Bool). Some (scanned e (fresh && b) (x && m) (cond x (bit_xor w (2 ^ P)) w))) (sym has ∙ k))
 
-  pub closed-free : h ≡ true → {v : ℕ} → v ≡ 2 ^ P → Past e (fresh && b) m (bit_xor w v) ≡ closed_of fresh P body
-  closed-free k hv = ap (λ (x : ℕ). Past e (fresh && b) m (bit_xor w x)) hv ∙ closing k
+  pub closed-free : h ≡ true → {v : ℕ} → v ≡ 2 ^ P → Some (scanned e (fresh && b) m (bit_xor w v)) ≡ closed_of fresh P body
+  closed-free k hv = ap (λ (x : ℕ). Some (scanned e (fresh && b) m (bit_xor w x))) hv ∙ closing k
 
-  pub closed_vacuous : h ≡ false → Past e (fresh && b) false w ≡ closed_of fresh P body
+  pub closed_vacuous : h ≡ false → Some (scanned e (fresh && b) false w) ≡ closed_of fresh P body
   closed_vacuous k = closing k
 
 -- a variable that was read is below 16
-module _ (n : ℕ) (g : Grammar) (bs : List ℕ) (at : ℕ) {ld : Lead} (found : ld ≡ lead_at n g bs at) {t : Token} (is : ld ≡ Is t) where
+module _ (n : ℕ) (g : Grammar) (bs : List ℕ) (at : ℕ) {ld : Option Token} (found : ld ≡ lead_at n g bs at) {t : Token} (is : ld ≡ Some t) where
   within : fits t ≡ true
   within = (byte_token _ (lead_read n g bs at (sym found ∙ is)).token).within
 
@@ -155,45 +170,45 @@ module _ (n : ℕ) (g : Grammar) (bs : List ℕ) (at : ℕ) {ld : Lead} (found :
   binder_small {x} {P} e = ltb-true P 16 (ap fits (sym e) ∙ within)
 
 -- with no depth left no formula stands at the place
-pub scan_zero : (scope n : ℕ) (g : Grammar) (d : ℕ) (bs : List ℕ) (at : ℕ) → d ≡ 0 → Refused4 ≡ scan_of scope (parse n g d bs at)
+pub scan_zero : (scope n : ℕ) (g : Grammar) (d : ℕ) (bs : List ℕ) (at : ℕ) → d ≡ 0 → None ≡ scan_of scope (parse n g d bs at)
 scan_zero scope n g d bs at e = rw (parse-zero n g bs at d e)
 
 -- Below, the code's own equations: `found`, what the token reader ensures; `is`, the token that it gave; and of each result what its call
 -- ensures.
-module _ (scope n : ℕ) (g : Grammar) (d : ℕ) (bs : List ℕ) (at : ℕ) (some : d ≡ 0 → ⊥) {ld : Lead} (found : ld ≡ lead_at n g bs at) where
-  here : {x : Lead} → ld ≡ x → scan_of scope (parse n g d bs at) ≡ scan_of scope (grown x (at + 1) (parse n g (d - 1) bs))
+module _ (scope n : ℕ) (g : Grammar) (d : ℕ) (bs : List ℕ) (at : ℕ) (some : d ≡ 0 → ⊥) {ld : Option Token} (found : ld ≡ lead_at n g bs at) where
+  here : {x : Option Token} → ld ≡ x → scan_of scope (parse n g d bs at) ≡ scan_of scope (grown x (at + 1) (parse n g (d - 1) bs))
   here e = ap (scan_of scope) (parse-at n g bs at d (omega arith) (sym found ∙ e))
 
-  pub scan_bad : ld ≡ Bad → Refused4 ≡ scan_of scope (parse n g d bs at)
+  pub scan_bad : ld ≡ None → None ≡ scan_of scope (parse n g d bs at)
   scan_bad e = sym (here e)
 
-  module _ {t : Token} (is : ld ≡ Is t) where
-    pub scan_token : {l : Leaf} → t ≡ LeafToken l → {r : Scan} → r ≡ scan_of scope (got (leaf_form l) (at + 1))
+  module _ {t : Token} (is : ld ≡ Some t) where
+    pub scan_token : {l : Leaf} → t ≡ LeafToken l → {r : Option Scan} → r ≡ scan_of scope (got (leaf_form l) (at + 1))
         → r ≡ scan_of scope (parse n g d bs at)
-    scan_token e h = h ∙ sym (here (is ∙ ap Is e))
+    scan_token e h = h ∙ sym (here (is ∙ ap Some e))
 
-    pub scan_alike : {u : Token} → t ≡ u → {c : Form → Form} → Unary u c → Alike c → {r : Scan}
+    pub scan_alike : {u : Token} → t ≡ u → {c : Form → Form} → Unary u c → Alike c → {r : Option Scan}
         → r ≡ scan_of scope (parse n g (d - 1) bs (at + 1)) → r ≡ scan_of scope (parse n g d bs at)
     scan_alike e {c} op same h =
         h ∙ sym
-        (here (is ∙ ap Is e) ∙ ap (scan_of scope) (grown_unary op (at + 1) (parse n g (d - 1) bs))
+        (here (is ∙ ap Some e) ∙ ap (scan_of scope) (grown_unary op (at + 1) (parse n g (d - 1) bs))
         ∙ scan_one c same scope (parse n g (d - 1) bs (at + 1)))
 
     -- `hb`, `hi`: what the code reads of the scope, and what it hands on
     pub scan_binder : {x : Fix} {P : ℕ} → t ≡ Binder x P → {b : Bool} → b ≡ bit P scope → {w inner : ℕ} → w ≡ 2 ^ P → inner ≡ bit_or scope w
-        → {r₁ : Scan} → r₁ ≡ scan_of inner (parse n g (d - 1) bs (at + 1)) → {r : Scan} → r ≡ closed_of (not b) P r₁
+        → {r₁ : Option Scan} → r₁ ≡ scan_of inner (parse n g (d - 1) bs (at + 1)) → {r : Option Scan} → r ≡ closed_of (not b) P r₁
         → r ≡ scan_of scope (parse n g d bs at)
     scan_binder {x} {P} e hb hw hi h₁ hr =
         hr ∙ rw (hb, h₁, hi, hw) (scan_bind x P scope (binder_small n g bs at found is e) (parse n g (d - 1) bs (at + 1)))
-        ∙ sym (here (is ∙ ap Is e))
+        ∙ sym (here (is ∙ ap Some e))
 
-    module _ {j : Two} (e : t ≡ Both j) {r₁ : Scan} (h₁ : r₁ ≡ scan_of scope (parse n g (d - 1) bs (at + 1))) where
-      pub scan_both : {mid : ℕ} {b m : Bool} {v : ℕ} → r₁ ≡ Past mid b m v → {r₂ : Scan} → r₂ ≡ scan_of scope (parse n g (d - 1) bs mid)
-          → {r : Scan} → r ≡ joined_of b m v r₂ → r ≡ scan_of scope (parse n g d bs at)
+    module _ {j : Two} (e : t ≡ Both j) {r₁ : Option Scan} (h₁ : r₁ ≡ scan_of scope (parse n g (d - 1) bs (at + 1))) where
+      pub scan_both : {mid : ℕ} {b m : Bool} {v : ℕ} → r₁ ≡ Some (scanned mid b m v) → {r₂ : Option Scan} → r₂ ≡ scan_of scope (parse n g (d - 1) bs mid)
+          → {r : Option Scan} → r ≡ joined_of b m v r₂ → r ≡ scan_of scope (parse n g d bs at)
       scan_both {b = b} {m = m} {v = v} past h₂ hr =
           hr ∙ ap (joined_of b m v) h₂ ∙ scan_two j scope (parse n g (d - 1) bs) (parse n g (d - 1) bs (at + 1)) (sym h₁ ∙ past)
-          ∙ sym (here (is ∙ ap Is e))
+          ∙ sym (here (is ∙ ap Some e))
 
-      pub scan_both_bad : r₁ ≡ Refused4 → Refused4 ≡ scan_of scope (parse n g d bs at)
+      pub scan_both_bad : r₁ ≡ None → None ≡ scan_of scope (parse n g d bs at)
       scan_both_bad bad =
-          scan_two_bad j scope (parse n g (d - 1) bs) (parse n g (d - 1) bs (at + 1)) (sym h₁ ∙ bad) ∙ sym (here (is ∙ ap Is e))
+          scan_two_bad j scope (parse n g (d - 1) bs) (parse n g (d - 1) bs (at + 1)) (sym h₁ ∙ bad) ∙ sym (here (is ∙ ap Some e))

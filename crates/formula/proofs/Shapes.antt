@@ -10,7 +10,7 @@ use Rattle.tokens.specs.declared.Leaf.{Leaf}
 use Rattle.tokens.specs.declared.Leaf.TheVariants.{False, True, Now, Next, Var, Reg}
 use Rattle.tokens.specs.declared.Join.TheVariants.{And, Or}
 use Rattle.tokens.specs.declared.Mode.{Mode}
-use Rattle.tokens.specs.declared.Mode.TheVariants.{All, Some}
+use Rattle.tokens.specs.declared.Mode.TheVariants as mode
 use Rattle.tokens.specs.declared.Fix.{Fix}
 use Rattle.tokens.specs.declared.Fix.TheVariants.{Mu, Nu}
 use Rattle.tokens.specs.declared.Two.{Two}
@@ -28,13 +28,13 @@ pub bound-join : (s : List Bool) (w : Two) (f g : Form) → bound s (two_form w 
 unfolding bound
 bound-join s (Joins And) f g = refl
 bound-join s (Joins Or) f g = refl
-bound-join s (Until All t) f g = refl
-bound-join s (Until Some t) f g = refl
+bound-join s (Until mode.All t) f g = refl
+bound-join s (Until mode.Some t) f g = refl
 
 pub bound-modal : (s : List Bool) (m : Mode) (t : ℕ) (f : Form) → bound s (modal_form m t f) ≡ bound s f
 unfolding bound
-bound-modal s All t f = refl
-bound-modal s Some t f = refl
+bound-modal s mode.All t f = refl
+bound-modal s mode.Some t f = refl
 
 pub bound_binder : (s : List Bool) (x : Fix) (P : ℕ) (f : Form)
     → bound s (binder_form x P f) ≡ (not (get_or s P false) && bound (set s P true) f)
@@ -52,13 +52,13 @@ pub reads_join : (even : Bool) (p : ℕ) (w : Two) (f g : Form) → reads even p
 unfolding reads
 reads_join even p (Joins And) f g = refl
 reads_join even p (Joins Or) f g = refl
-reads_join even p (Until All t) f g = refl
-reads_join even p (Until Some t) f g = refl
+reads_join even p (Until mode.All t) f g = refl
+reads_join even p (Until mode.Some t) f g = refl
 
 pub reads_modal : (even : Bool) (p : ℕ) (m : Mode) (t : ℕ) (f : Form) → reads even p (modal_form m t f) ≡ reads even p f
 unfolding reads
-reads_modal even p All t f = refl
-reads_modal even p Some t f = refl
+reads_modal even p mode.All t f = refl
+reads_modal even p mode.Some t f = refl
 
 pub reads_binder : (even : Bool) (p : ℕ) (x : Fix) (P : ℕ) (f : Form) → reads even p (binder_form x P f) ≡ reads even p f
 unfolding reads
@@ -75,13 +75,13 @@ pub steady-join : (w : Two) (f g : Form) → steady (two_form w f g) ≡ (steady
 unfolding steady
 steady-join (Joins And) f g = refl
 steady-join (Joins Or) f g = refl
-steady-join (Until All t) f g = refl
-steady-join (Until Some t) f g = refl
+steady-join (Until mode.All t) f g = refl
+steady-join (Until mode.Some t) f g = refl
 
 pub steady-modal : (m : Mode) (t : ℕ) (f : Form) → steady (modal_form m t f) ≡ steady f
 unfolding steady
-steady-modal All t f = refl
-steady-modal Some t f = refl
+steady-modal mode.All t f = refl
+steady-modal mode.Some t f = refl
 
 pub steady_binder : (x : Fix) (P : ℕ) (f : Form) → steady (binder_form x P f) ≡ (reads true P f && steady f)
 unfolding steady
@@ -98,13 +98,13 @@ pub lacks-join : (p : ℕ) (w : Two) (f g : Form) → lacks p (two_form w f g) �
 unfolding lacks
 lacks-join p (Joins And) f g = refl
 lacks-join p (Joins Or) f g = refl
-lacks-join p (Until All t) f g = refl
-lacks-join p (Until Some t) f g = refl
+lacks-join p (Until mode.All t) f g = refl
+lacks-join p (Until mode.Some t) f g = refl
 
 pub lacks-modal : (p : ℕ) (m : Mode) (t : ℕ) (f : Form) → lacks p (modal_form m t f) ≡ lacks p f
 unfolding lacks
-lacks-modal p All t f = refl
-lacks-modal p Some t f = refl
+lacks-modal p mode.All t f = refl
+lacks-modal p mode.Some t f = refl
 
 pub lacks_binder : (p : ℕ) (x : Fix) (P : ℕ) (f : Form) → lacks p (binder_form x P f) ≡ (eqb P p || lacks p f)
 unfolding lacks
@@ -121,13 +121,13 @@ pub mentioned-join : (w : Two) (f g : Form) → mentioned (two_form w f g) ≡ (
 unfolding mentioned
 mentioned-join (Joins And) f g = refl
 mentioned-join (Joins Or) f g = refl
-mentioned-join (Until All t) f g = refl
-mentioned-join (Until Some t) f g = refl
+mentioned-join (Until mode.All t) f g = refl
+mentioned-join (Until mode.Some t) f g = refl
 
 pub mentioned-modal : (m : Mode) (t : ℕ) (f : Form) → mentioned (modal_form m t f) ≡ mentioned f
 unfolding mentioned
-mentioned-modal All t f = refl
-mentioned-modal Some t f = refl
+mentioned-modal mode.All t f = refl
+mentioned-modal mode.Some t f = refl
 
 pub mentioned_binder : (x : Fix) (P : ℕ) (f : Form) → mentioned (binder_form x P f) ≡ (not (lacks P f) && mentioned f)
 unfolding mentioned
@@ -145,14 +145,14 @@ pub filled-join : (regs rels : ℕ → Bool) (w : Two) (f g : Form)
 unfolding filled
 filled-join regs rels (Joins And) f g = refl
 filled-join regs rels (Joins Or) f g = refl
-filled-join regs rels (Until All t) f g = refl
-filled-join regs rels (Until Some t) f g = refl
+filled-join regs rels (Until mode.All t) f g = refl
+filled-join regs rels (Until mode.Some t) f g = refl
 
 pub filled-modal : (regs rels : ℕ → Bool) (m : Mode) (t : ℕ) (f : Form)
     → filled regs rels (modal_form m t f) ≡ (rels t && filled regs rels f)
 unfolding filled
-filled-modal regs rels All t f = refl
-filled-modal regs rels Some t f = refl
+filled-modal regs rels mode.All t f = refl
+filled-modal regs rels mode.Some t f = refl
 
 pub filled_binder : (regs rels : ℕ → Bool) (x : Fix) (P : ℕ) (f : Form) → filled regs rels (binder_form x P f) ≡ filled regs rels f
 unfolding filled

@@ -1,4 +1,5 @@
 -- One step of reading: what `parse` does by the token at a place. Assumes nothing.
+use Rattle.std.specs.Prelude.{Option, Some}
 use mathlib.Core.Path.{◌≡◌, refl, ap, ◌∙◌}
 use mathlib.Core.List.{List}
 use Prim.Native.Nat.{ℕ, zero, suc, ◌+◌, ◌-◌, ◌<◌}
@@ -13,8 +14,6 @@ use Rattle.tokens.specs.declared.Mode.{Mode}
 use Rattle.tokens.specs.declared.Fix.{Fix}
 use Rattle.tokens.specs.declared.Token.{Token}
 use Rattle.tokens.specs.declared.Token.TheVariants.{Not, Modal, Binder}
-use Rattle.tokens.specs.declared.Lead.{Lead}
-use Rattle.tokens.specs.declared.Lead.TheVariants.{Is}
 use Rattle.formula.specs.Parse.{modal_form, binder_form, Got, fails, got, one, grown, parse}
 
 -- an operator of one part: its token, and what it makes of the part
@@ -28,7 +27,7 @@ not-got z = let y : ◌≡◌ {A = ℕ} 0 1 = cc in omega arith
 
 module _ (n : ℕ) (g : Grammar) (bs : List ℕ) (at : ℕ) where
   -- a token was read only inside the bytes
-  pub lead_inside : {t : Token} → lead_at n g bs at ≡ Is t → at < length bs
+  pub lead_inside : {t : Token} → lead_at n g bs at ≡ Some t → at < length bs
   lead_inside e = (lead_read n g bs at e).inside
 
   module _ (d : ℕ) where
@@ -46,10 +45,10 @@ module _ (n : ℕ) (g : Grammar) (bs : List ℕ) (at : ℕ) where
         by-depth (suc d) h = rw (sub-one (suc d))
 
     -- the same by the token that stands there
-    pub parse-at : 0 < d → {ld : Lead} → lead_at n g bs at ≡ ld → parse n g d bs at ≡ grown ld (at + 1) (parse n g (d - 1) bs)
-    parse-at some e = parse-step some ∙ ap (λ (x : Lead). grown x (at + 1) (parse n g (d - 1) bs)) e
+    pub parse-at : 0 < d → {ld : Option Token} → lead_at n g bs at ≡ ld → parse n g d bs at ≡ grown ld (at + 1) (parse n g (d - 1) bs)
+    parse-at some e = parse-step some ∙ ap (λ (x : Option Token). grown x (at + 1) (parse n g (d - 1) bs)) e
 
-pub grown_unary : {t : Token} {c : Form → Form} → Unary t c → (after : ℕ) (read : ℕ → Got) → grown (Is t) after read ≡ one c (read after)
+pub grown_unary : {t : Token} {c : Form → Form} → Unary t c → (after : ℕ) (read : ℕ → Got) → grown (Some t) after read ≡ one c (read after)
 grown_unary is-not after read = refl
 grown_unary (is-modal m t) after read = refl
 grown_unary (is_binder x P) after read = refl

@@ -5,6 +5,7 @@ use mathlib.Core.List.{List}
 use Prim.Native.Nat.{ℕ, zero, suc, ◌+◌, ◌≤◌, ◌<◌}
 use native.Mathlib.Omega.{arith}
 use lib.Dec.{T, ltb, eqb-suc-zero}
+use Rattle.std.specs.Prelude.{Result}
 use Rattle.accounts.specs.declared.Terms.{Terms}
 use Rattle.accounts.specs.Terms.{named}
 use Rattle.mucalculus.specs.Form.{filled}
@@ -17,7 +18,6 @@ use Rattle.layout.specs.Refusals.{refusal_number}
 use Rattle.layout.proofs.Refusals.{refusal-some}
 use Rattle.layout.specs.declared.Refusal.{Refusal}
 use Rattle.formula.specs.Checks.{first_refusal, number_of}
-use Rattle.formula.specs.declared.Checked.{Checked}
 use Rattle.book.specs.Book.{Book, Call, relation, set, checks, refuse, does}
 use Rattle.book.specs.BookOf.{book_of}
 use Rattle.book.specs.Leaves.{plain}
@@ -65,7 +65,7 @@ module _ (ws : List ℕ) (s : SoundWords ws) where
       ∙ sym e
 
   -- and what the reader says is its number
-  pub checks-told : (k : Kind) (bs : List ℕ) {n : ℕ} {v w : Checked} → n ≡ header_of ws BITS
+  pub checks-told : (k : Kind) (bs : List ℕ) {n : ℕ} {v w : Result (Unit {0}) Refusal} → n ≡ header_of ws BITS
       → number_of v ≡ first_refusal k n (filled_register ws) (filled_relation ws) bs → v ≡ w → checks b k bs ≡ number_of w
   checks-told k bs i e h = checks-read k bs i e ∙ ap number_of h
 

@@ -12,34 +12,32 @@ ghost use Rattle.formula_steps.specs.Replies.{stored_reply, loaded_reply, confin
 ghost use Rattle.formula_calls.specs.Vacant.{Vacant};
 
 use accounts::{Terms, is_named};
-use formula::{Checked, check_formula};
-use formula_steps::{Confined, Loaded, Stored, relation_steps, set_steps, valid_steps};
+use formula::check_formula;
+use formula_steps::{Loaded, Stored, relation_steps, set_steps, valid_steps};
 use layout::{Refusal, Table, header_word};
 use soundness::sound;
 use tokens::Kind;
 
 // Relation t of a sound table holds the pairs of a formula; 3 where there is no such relation, 4 to 7 and 12 by the formula, 8 where a step
 // needs more rows than there are.
-pub fn relation_unchecked(words: &mut [u32], t: u32, bytes: &[u8]) -> Loaded
+pub fn relation_unchecked(words: &mut [u32], t: u32, bytes: &[u8]) -> Result<Loaded, Refusal>
     requires { SoundWords words.old }
     ensures { CallPost (book.relation t bytes.now) words.old words.new (loaded_reply result) }
 {
     if t >= Table::RELATIONS {
-        return Loaded::Refused(Refusal::Range);
+        return Err(Refusal::Range);
     }
     let n = header_word(words, Table::BITS);
-    match check_formula(bytes, Kind::Relation, n, words) {
-        Checked::Refused(x) => Loaded::Refused(x),
-        Checked::Fit => relation_steps(words, t, bytes),
-    }
+    check_formula(bytes, Kind::Relation, n, words)?;
+    relation_steps(words, t, bytes)
 }
 
 // Relation t holds the pairs of a formula; 2 on unsound words, and else as `relation_unchecked`.
-pub fn relation(words: &mut [u32], t: u32, bytes: &[u8]) -> Loaded
+pub fn relation(words: &mut [u32], t: u32, bytes: &[u8]) -> Result<Loaded, Refusal>
     ensures { CallPost (book.relation t bytes.now) words.old words.new (loaded_reply result) }
 {
     if !sound(words) {
-        return Loaded::Refused(Refusal::Unsound);
+        return Err(Refusal::Unsound);
     }
     relation_unchecked(words, t, bytes)
 }
@@ -48,29 +46,39 @@ pub fn relation(words: &mut [u32], t: u32, bytes: &[u8]) -> Loaded
 // is no such register, 14 where the list has not the account named, 4 to 7 and 12 by the formula, 8 where a step needs more rows than there
 // are,
 // 9 where the rounds are used up.
-pub fn set_unchecked(words: &mut [u32], terms: Terms, r: u32, most: u32, bytes: &[u8]) -> Stored
+pub fn set_unchecked(
+    words: &mut [u32],
+    terms: Terms,
+    r: u32,
+    most: u32,
+    bytes: &[u8],
+) -> Result<Stored, Refusal>
     requires { SoundWords words.old }
     ensures { CallPost (book.set terms r most bytes.now) words.old words.new (stored_reply result) }
 {
     if r >= Table::REGISTERS {
-        return Stored::Refused(Refusal::Range);
+        return Err(Refusal::Range);
     }
     if !is_named(terms) {
-        return Stored::Refused(Refusal::Unlisted);
+        return Err(Refusal::Unlisted);
     }
     let n = header_word(words, Table::BITS);
-    match check_formula(bytes, Kind::Set, n, words) {
-        Checked::Refused(x) => Stored::Refused(x),
-        Checked::Fit => set_steps(words, terms, r, most, bytes),
-    }
+    check_formula(bytes, Kind::Set, n, words)?;
+    set_steps(words, terms, r, most, bytes)
 }
 
 // Register r holds the states of a formula; 2 on unsound words, and else as `set_unchecked`.
-pub fn set(words: &mut [u32], terms: Terms, r: u32, most: u32, bytes: &[u8]) -> Stored
+pub fn set(
+    words: &mut [u32],
+    terms: Terms,
+    r: u32,
+    most: u32,
+    bytes: &[u8],
+) -> Result<Stored, Refusal>
     ensures { CallPost (book.set terms r most bytes.now) words.old words.new (stored_reply result) }
 {
     if !sound(words) {
-        return Stored::Refused(Refusal::Unsound);
+        return Err(Refusal::Unsound);
     }
     set_unchecked(words, terms, r, most, bytes)
 }
@@ -80,38 +88,34 @@ fn unfilled(words: &[u32]) -> bool
     requires { HEADER ≤ length words.now }
     ensures { Says (Vacant words.now) result }
 {
-    let mut k = Table::FIRST_REGISTER;
-    while k < Table::ROOTS_END {
+    for k in Table::FIRST_REGISTER..Table::ROOTS_END {
         if header_word(words, k) != 0 {
             return false;
         }
-        k += 1;
     }
     true
 }
 
 // V, the states that exist, are those of a formula, in a sound table; 13 while a register or relation is filled, 4 by the formula, 8 where
 // a step needs more rows than there are.
-pub fn valid_unchecked(words: &mut [u32], bytes: &[u8]) -> Confined
+pub fn valid_unchecked(words: &mut [u32], bytes: &[u8]) -> Result<(), Refusal>
     requires { SoundWords words.old }
     ensures { CallPost (book.valid bytes.now) words.old words.new (confined_reply result) }
 {
     if !unfilled(words) {
-        return Confined::Refused(Refusal::Occupied);
+        return Err(Refusal::Occupied);
     }
     let n = header_word(words, Table::BITS);
-    match check_formula(bytes, Kind::Valid, n, words) {
-        Checked::Refused(x) => Confined::Refused(x),
-        Checked::Fit => valid_steps(words, bytes),
-    }
+    check_formula(bytes, Kind::Valid, n, words)?;
+    valid_steps(words, bytes)
 }
 
 // V, the states that exist, are those of a formula; 2 on unsound words, and else as `valid_unchecked`.
-pub fn valid(words: &mut [u32], bytes: &[u8]) -> Confined
+pub fn valid(words: &mut [u32], bytes: &[u8]) -> Result<(), Refusal>
     ensures { CallPost (book.valid bytes.now) words.old words.new (confined_reply result) }
 {
     if !sound(words) {
-        return Confined::Refused(Refusal::Unsound);
+        return Err(Refusal::Unsound);
     }
     valid_unchecked(words, bytes)
 }

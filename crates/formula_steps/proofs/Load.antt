@@ -1,11 +1,14 @@
 -- Laws of what specs/Load.antt defines. Assumes nothing.
+use Rattle.std.specs.Prelude.{Result, Ok, Err}
 use mathlib.Core.Path.{◌≡◌, refl, sym, subst}
 use mathlib.Core.Bool.{Bool, true, false}
 use mathlib.Core.List.{List}
 use Prim.Native.Nat.{ℕ, ◌≤◌, ◌<◌}
 use native.Mathlib.Omega.{arith}
 use lib.ListN.{length}
+use Rattle.std.specs.Prelude.{Result}
 use Rattle.accounts.specs.declared.Count.{Count}
+use Rattle.layout.specs.declared.Refusal.{Refusal}
 use Rattle.layout.specs.Places.{RELATIONS, MAX_ROWS, BITS, ROWS, words_for}
 use Rattle.layout.specs.View.{View, view, header_of}
 use Rattle.tokens.specs.declared.Kind.TheVariants.{Relation, Valid}
@@ -13,9 +16,9 @@ use Rattle.diagram.specs.Level.{Fn}
 use Rattle.diagram.specs.Rows.{Rows}
 use Rattle.rows.specs.Sound.{Sound, table_of}
 use Rattle.table.specs.Make.{result}
+use Rattle.table.specs.declared.Full.{Full}
 use Rattle.counting.specs.Taken.{made_in, count_in}
 use Rattle.counting.specs.declared.Taken.{Taken}
-use Rattle.counting.specs.declared.Taken.TheVariants as taken
 use Rattle.book.specs.Book.{relation, valid}
 use Rattle.book.specs.Pairs.{PairEvals}
 use Rattle.contract.specs.Posts.{CallPost}
@@ -27,14 +30,13 @@ use Rattle.formula_steps.specs.Replies.{loaded_reply, confined_reply}
 use Rattle.formula_steps.specs.Store.{Carries, loaded_of, relation_loaded, confined_of, valid_confined}
 use Rattle.formula_steps.proofs.Store.{loaded_late, confined-late, arrow-fits, limits_of}
 use Rattle.formula_steps.specs.declared.Loaded.{Loaded}
-use Rattle.formula_steps.specs.declared.Confined.{Confined}
 use Rattle.formula_steps.specs.Load.{RelationReady, ValidReady}
 
-ends_carries : {n N : ℕ} {before after : Rows} {roots : List ℕ} {F : Fn} {p : Count} (fits : Bool) (y : Taken) → N ≤ MAX_ROWS
+ends_carries : {n N : ℕ} {before after : Rows} {roots : List ℕ} {F : Fn} {p : Count} (fits : Bool) (y : Result Taken Full) → N ≤ MAX_ROWS
     → PairEvals n N before after roots fits F p (result (made_in y)) (count_in y) → Carries y
-ends_carries true (taken.At a q) l d = arrow-fits d.wf l a d.result.0.arrow
-ends_carries false (taken.At a q) l d = absurd d.result
-ends_carries fits taken.Full l d = tt
+ends_carries true (Ok t) l d = arrow-fits d.wf l t.arrow d.result.0.arrow
+ends_carries false (Ok t) l d = absurd d.result
+ends_carries fits (Err x) l d = tt
 
 -- `rows` and `n` are what the code reads and hands on
 module _ {old bs : List ℕ} {t rows n : ℕ} (p : RelationReady t old bs) (er : rows ≡ header_of old ROWS) (en : n ≡ header_of old BITS) where
@@ -43,7 +45,7 @@ module _ {old bs : List ℕ} {t rows n : ℕ} (p : RelationReady t old bs) (er :
       rw (er, en)
       (record { sound = p.sound; bits = refl; rows = refl; limit = omega arith; kind = Relation; is-pairs = refl; passed = p.passed })
 
-  module _ (mid : List ℕ) {y : Taken} (d : RelationPost (limits_of n rows rows 0) (view rows old) (view rows mid) bs y) where
+  module _ (mid : List ℕ) {y : Result Taken Full} (d : RelationPost (limits_of n rows rows 0) (view rows old) (view rows mid) bs y) where
     post : RelationPost (limits_of (header_of old BITS) (header_of old ROWS) (header_of old ROWS) 0) (table_of old)
         (view (header_of old ROWS) mid) bs y
     post = rw (er, en) at d
@@ -58,11 +60,11 @@ module _ {old bs : List ℕ} {t rows n : ℕ} (p : RelationReady t old bs) (er :
     through : Through old (relation t bs) (loaded_reply (loaded_of y)) (relation_loaded X t y)
     through = go y evals
       where
-        go : (y : Taken)
+        go : (y : Result Taken Full)
             → RelationEnds old p.sound X post.sound.good post.frame t bs p.range p.passed (result (made_in y)) (count_in y)
             → Through old (relation t bs) (loaded_reply (loaded_of y)) (relation_loaded X t y)
-        go (taken.At a q) e = relation-value old p.sound X post.sound.good post.frame t bs p.range p.passed a q e
-        go taken.Full e = relation-full old p.sound X post.sound.good post.frame t bs p.range p.passed _ e
+        go (Ok o) e = relation-value old p.sound X post.sound.good post.frame t bs p.range p.passed o.arrow o.count e
+        go (Err x) e = relation-full old p.sound X post.sound.good post.frame t bs p.range p.passed _ e
 
     -- what `store_relation` asks
     pub relation_storing : (t < RELATIONS) × (words_for rows ≤ length mid) × Carries y
@@ -74,7 +76,7 @@ module _ {old bs : List ℕ} {t rows n : ℕ} (p : RelationReady t old bs) (er :
       relation_tidying = subst Sound (sym e) (rw er (through-sound p.sound through))
 
       -- the call
-      pub relation_done : {x : Loaded} → x ≡ loaded_of y → (new : List ℕ) → Tidied (view rows after) (view rows new)
+      pub relation_done : {x : Result Loaded Refusal} → x ≡ loaded_of y → (new : List ℕ) → Tidied (view rows after) (view rows new)
           → CallPost (relation t bs) old new (loaded_reply x)
       relation_done i new w =
           rw i (through-done p.sound tt (loaded_late y) through (rw (sym er) (subst (λ (v : View). Tidied v (view rows new)) e w)) refl)
@@ -87,7 +89,7 @@ module _ {old bs : List ℕ} {rows n : ℕ} (p : ValidReady old bs) (er : rows �
       rw (er, en)
       (record { sound = p.sound; bits = refl; rows = refl; limit = omega arith; kind = Valid; is-pairs = refl; passed = p.passed })
 
-  module _ (mid : List ℕ) {y : Taken} (d : PairsPost (limits_of n rows rows 0) (view rows old) (view rows mid) bs y) where
+  module _ (mid : List ℕ) {y : Result Taken Full} (d : PairsPost (limits_of n rows rows 0) (view rows old) (view rows mid) bs y) where
     fixed : PairsPost (limits_of (header_of old BITS) (header_of old ROWS) (header_of old ROWS) 0) (table_of old) (view (header_of old ROWS) mid)
         bs y
     fixed = rw (er, en) at d
@@ -101,11 +103,11 @@ module _ {old bs : List ℕ} {rows n : ℕ} (p : ValidReady old bs) (er : rows �
     confines : Through old (valid bs) (confined_reply (confined_of y)) (valid_confined Y y)
     confines = go y fixes
       where
-        go : (y : Taken)
+        go : (y : Result Taken Full)
             → ValidEnds old p.sound Y fixed.sound.good fixed.frame bs p.free p.passed (result (made_in y)) (count_in y)
             → Through old (valid bs) (confined_reply (confined_of y)) (valid_confined Y y)
-        go (taken.At a q) e = valid-value old p.sound Y fixed.sound.good fixed.frame bs p.free p.passed a q e
-        go taken.Full e = valid-full old p.sound Y fixed.sound.good fixed.frame bs p.free p.passed _ e
+        go (Ok o) e = valid-value old p.sound Y fixed.sound.good fixed.frame bs p.free p.passed o.arrow o.count e
+        go (Err x) e = valid-full old p.sound Y fixed.sound.good fixed.frame bs p.free p.passed _ e
 
     -- what `store_valid` asks
     pub valid_storing : (words_for rows ≤ length mid) × Carries y
@@ -115,7 +117,7 @@ module _ {old bs : List ℕ} {rows n : ℕ} (p : ValidReady old bs) (er : rows �
       pub valid_tidying : Sound (view rows after)
       valid_tidying = subst Sound (sym e) (rw er (through-sound p.sound confines))
 
-      pub valid_done : {x : Confined} → x ≡ confined_of y → (new : List ℕ) → Tidied (view rows after) (view rows new)
+      pub valid_done : {x : Result (Unit {0}) Refusal} → x ≡ confined_of y → (new : List ℕ) → Tidied (view rows after) (view rows new)
           → CallPost (valid bs) old new (confined_reply x)
       valid_done i new w =
           rw i (through-done p.sound tt (confined-late y) confines (rw (sym er) (subst (λ (v : View). Tidied v (view rows new)) e w))

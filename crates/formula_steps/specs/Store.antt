@@ -1,64 +1,59 @@
 -- What set and relation store of an evaluation, and what they answer. Assumes nothing.
-use Rattle.std.specs.Prelude.{◌≡◌, List, ℕ, suc, ◌<◌, T}
+use Rattle.std.specs.Prelude.{◌≡◌, List, ℕ, suc, ◌<◌, T, Result, Ok, Err}
 use Rattle.accounts.specs.declared.Terms.{Terms}
 use Rattle.accounts.specs.Terms.{named}
 use Rattle.layout.specs.Places.{REGISTERS}
 use Rattle.layout.specs.View.{View}
+use Rattle.layout.specs.declared.Refusal.{Refusal}
 use Rattle.layout.specs.declared.Refusal.TheVariants as refusal
 use Rattle.tokens.specs.declared.Kind.TheVariants as kind
+use Rattle.table.specs.declared.Full.{Full}
 use Rattle.counting.specs.declared.Taken.{Taken}
-use Rattle.counting.specs.declared.Taken.TheVariants as taken
 use Rattle.book.specs.Book.{checks}
 use Rattle.book.specs.BookOf.{book_of}
 use Rattle.contract.specs.Seen.{seen, SoundWords}
-use Rattle.evaluator.specs.declared.Evaluated.{Evaluated}
-use Rattle.evaluator.specs.declared.Evaluated.TheVariants.{Value, Full, Spent}
+use Rattle.evaluator.specs.Stops.{stopped_refusal}
+use Rattle.evaluator.specs.declared.Stopped.{Stopped}
+use Rattle.evaluator.specs.declared.Value.{Value}
 use Rattle.formula_steps.specs.Evaluated.{register_stored, relation_stored, valid_stored}
 use Rattle.formula_steps.specs.declared.Stored.{Stored}
-use Rattle.formula_steps.specs.declared.Stored.TheVariants as stored
 use Rattle.formula_steps.specs.declared.Loaded.{Loaded}
-use Rattle.formula_steps.specs.declared.Loaded.TheVariants as loaded
-use Rattle.formula_steps.specs.declared.Confined.{Confined}
-use Rattle.formula_steps.specs.declared.Confined.TheVariants as confined
 
 -- an arrow whose word fits
-abbrev pub Holds : Evaluated → Type 0
-Holds (Value a k q) = suc a < 4_294_967_296
-Holds Full = Unit {0}
-Holds Spent = Unit {0}
+abbrev pub Holds : Result Value Stopped → Type 0
+Holds (Ok v) = suc v.arrow < 4_294_967_296
+Holds (Err s) = Unit {0}
 
 -- set's answer, and the words with the arrow
-abbrev pub stored_of : Evaluated → Stored
-stored_of (Value a k q) = stored.Node a q.rounds q.peak
-stored_of Full = stored.Refused refusal.Full
-stored_of Spent = stored.Refused refusal.Spent
+abbrev pub stored_of : Result Value Stopped → Result Stored Refusal
+stored_of (Ok v) = Ok (record { number = v.arrow; rounds = v.count.rounds; peak = v.count.peak })
+stored_of (Err s) = Err (stopped_refusal s)
 
-abbrev pub set_stored : View → ℕ → Evaluated → View
-set_stored X r (Value a k q) = register_stored X r a
-set_stored X r Full = X
-set_stored X r Spent = X
+abbrev pub set_stored : View → ℕ → Result Value Stopped → View
+set_stored X r (Ok v) = register_stored X r v.arrow
+set_stored X r (Err s) = X
 
 -- relation's answer, and the words with the arrow
-abbrev pub Carries : Taken → Type 0
-Carries (taken.At a q) = suc a < 4_294_967_296
-Carries taken.Full = Unit {0}
+abbrev pub Carries : Result Taken Full → Type 0
+Carries (Ok t) = suc t.arrow < 4_294_967_296
+Carries (Err x) = Unit {0}
 
-abbrev pub loaded_of : Taken → Loaded
-loaded_of (taken.At a q) = loaded.Done q.peak
-loaded_of taken.Full = loaded.Refused refusal.Full
+abbrev pub loaded_of : Result Taken Full → Result Loaded Refusal
+loaded_of (Ok t) = Ok (record { peak = t.count.peak })
+loaded_of (Err x) = Err refusal.Full
 
-abbrev pub relation_loaded : View → ℕ → Taken → View
-relation_loaded X t (taken.At a q) = relation_stored X t a
-relation_loaded X t taken.Full = X
+abbrev pub relation_loaded : View → ℕ → Result Taken Full → View
+relation_loaded X t (Ok o) = relation_stored X t o.arrow
+relation_loaded X t (Err x) = X
 
 -- valid's answer, and the words with V's arrow
-abbrev pub confined_of : Taken → Confined
-confined_of (taken.At a q) = confined.Done
-confined_of taken.Full = confined.Refused refusal.Full
+abbrev pub confined_of : Result Taken Full → Result (Unit {0}) Refusal
+confined_of (Ok t) = Ok tt
+confined_of (Err x) = Err refusal.Full
 
-abbrev pub valid_confined : View → Taken → View
-valid_confined X (taken.At a q) = valid_stored X a
-valid_confined X taken.Full = X
+abbrev pub valid_confined : View → Result Taken Full → View
+valid_confined X (Ok t) = valid_stored X t.arrow
+valid_confined X (Err x) = X
 
 -- ---- the steps of `set_steps`: `rows`, `n` and `R` are what the code reads and hands on
 

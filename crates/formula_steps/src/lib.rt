@@ -17,29 +17,23 @@ ghost use Rattle.formula_steps.specs.Store.{valid_confined};
 use accounts::{Terms, rounds_under, rows_under};
 use collect::free_many;
 use counting::Taken;
-use evaluator::{Evaluated, evaluate_pairs, evaluate_relation, evaluate_set};
+use evaluator::{Stopped, Value, evaluate_pairs, evaluate_relation, evaluate_set};
 use layout::{Refusal, Table, header_word, put_header};
 use modal::Limits;
+use table::Full;
 
 // What set answers: the node number, the rounds and the peak.
 #[derive(Clone, Copy)]
-pub enum Stored {
-    Node { number: u32, rounds: u32, peak: u32 },
-    Refused(Refusal),
+pub struct Stored {
+    pub number: u32,
+    pub rounds: u32,
+    pub peak: u32,
 }
 
 // What relation answers: the peak.
 #[derive(Clone, Copy)]
-pub enum Loaded {
-    Done { peak: u32 },
-    Refused(Refusal),
-}
-
-// What valid answers.
-#[derive(Clone, Copy)]
-pub enum Confined {
-    Done,
-    Refused(Refusal),
+pub struct Loaded {
+    pub peak: u32,
 }
 
 // Frees the rows that no register and no relation needs, where they are many. Looked at only where the used rows have passed a multiple of
@@ -56,47 +50,52 @@ fn tidy(words: &mut [u32], rows: u32, before: u32)
 }
 
 // Stores what an evaluation gave in register r.
-fn store_set(words: &mut [u32], rows: u32, r: u32, done: Evaluated) -> Stored
+fn store_set(
+    words: &mut [u32],
+    rows: u32,
+    r: u32,
+    done: Result<Value, Stopped>,
+) -> Result<Stored, Refusal>
     requires { (r < REGISTERS) × (words_for rows ≤ length words.old) × Holds done }
     ensures { (result ≡ stored_of done) × (view rows words.new ≡ set_stored (view rows words.old) r done) }
 {
-    match done {
-        Evaluated::Full => Stored::Refused(Refusal::Full),
-        Evaluated::Spent => Stored::Refused(Refusal::Spent),
-        Evaluated::Value {
-            arrow: a,
-            next: _,
-            count: q,
-        } => {
-            let at = Table::FIRST_REGISTER + (r as usize);
-            put_header(words, rows, at, a + 1);
-            Stored::Node {
-                number: a,
-                rounds: q.rounds,
-                peak: q.peak,
-            }
-        }
-    }
+    let value = done?;
+    let at = Table::FIRST_REGISTER + (r as usize);
+    put_header(words, rows, at, value.arrow + 1);
+    Ok(Stored {
+        number: value.arrow,
+        rounds: value.count.rounds,
+        peak: value.count.peak,
+    })
 }
 
 // Stores what an evaluation gave in relation t.
-fn store_relation(words: &mut [u32], rows: u32, t: u32, done: Taken) -> Loaded
+fn store_relation(
+    words: &mut [u32],
+    rows: u32,
+    t: u32,
+    done: Result<Taken, Full>,
+) -> Result<Loaded, Refusal>
     requires { (t < RELATIONS) × (words_for rows ≤ length words.old) × Carries done }
     ensures { (result ≡ loaded_of done) × (view rows words.new ≡ relation_loaded (view rows words.old) t done) }
 {
-    match done {
-        Taken::Full => Loaded::Refused(Refusal::Full),
-        Taken::At { arrow: a, count: q } => {
-            let at = Table::FIRST_RELATION + (t as usize);
-            put_header(words, rows, at, a + 1);
-            Loaded::Done { peak: q.peak }
-        }
-    }
+    let made = done?;
+    let at = Table::FIRST_RELATION + (t as usize);
+    put_header(words, rows, at, made.arrow + 1);
+    Ok(Loaded {
+        peak: made.count.peak,
+    })
 }
 
 // Evaluates a checked formula under the limits of an account, stores its states in register r, and frees rows where many are not needed any
 // more.
-pub fn set_steps(words: &mut [u32], terms: Terms, r: u32, most: u32, bytes: &[u8]) -> Stored
+pub fn set_steps(
+    words: &mut [u32],
+    terms: Terms,
+    r: u32,
+    most: u32,
+    bytes: &[u8],
+) -> Result<Stored, Refusal>
     requires { SetReady terms r words.old bytes.now }
     ensures { CallPost (book.set terms r most bytes.now) words.old words.new (stored_reply result) }
 {
@@ -115,7 +114,7 @@ pub fn set_steps(words: &mut [u32], terms: Terms, r: u32, most: u32, bytes: &[u8
 }
 
 // Evaluates a checked formula, stores its pairs in relation t, and frees rows where many are not needed any more.
-pub fn relation_steps(words: &mut [u32], t: u32, bytes: &[u8]) -> Loaded
+pub fn relation_steps(words: &mut [u32], t: u32, bytes: &[u8]) -> Result<Loaded, Refusal>
     requires { RelationReady t words.old bytes.now }
     ensures { CallPost (book.relation t bytes.now) words.old words.new (loaded_reply result) }
 {
@@ -134,21 +133,17 @@ pub fn relation_steps(words: &mut [u32], t: u32, bytes: &[u8]) -> Loaded
 }
 
 // Stores what an evaluation gave as V.
-fn store_valid(words: &mut [u32], rows: u32, done: Taken) -> Confined
+fn store_valid(words: &mut [u32], rows: u32, done: Result<Taken, Full>) -> Result<(), Refusal>
     requires { (words_for rows ≤ length words.old) × Carries done }
     ensures { (result ≡ confined_of done) × (view rows words.new ≡ valid_confined (view rows words.old) done) }
 {
-    match done {
-        Taken::Full => Confined::Refused(Refusal::Full),
-        Taken::At { arrow: a, count: _ } => {
-            put_header(words, rows, Table::VALID, a + 1);
-            Confined::Done
-        }
-    }
+    let made = done?;
+    put_header(words, rows, Table::VALID, made.arrow + 1);
+    Ok(())
 }
 
 // Evaluates valid's checked formula, makes its states V, and frees rows where many are not needed any more.
-pub fn valid_steps(words: &mut [u32], bytes: &[u8]) -> Confined
+pub fn valid_steps(words: &mut [u32], bytes: &[u8]) -> Result<(), Refusal>
     requires { ValidReady words.old bytes.now }
     ensures { CallPost (book.valid bytes.now) words.old words.new (confined_reply result) }
 {

@@ -5,12 +5,14 @@ use mathlib.Core.List.{List}
 use Prim.Native.Nat.{ℕ, ◌*◌, ◌%◌, ◌^◌, ◌≤◌, ◌<◌}
 use native.Mathlib.Omega.{arith}
 use lib.Dec.{T, ltb, ltb→lt, lt→ltb}
+use Rattle.std.specs.Prelude.{Result, Ok, Err}
 use Rattle.accounts.specs.declared.Count.{Count}
 use Rattle.accounts.specs.declared.Terms.{Terms}
 use Rattle.accounts.specs.Terms.{rows_under, rounds_under}
 use Rattle.mucalculus.proofs.Sets.{true_of, false_of, and_in}
 use Rattle.mucalculus.specs.Form.{Pairs, filled as has_content}
 use Rattle.layout.specs.Places.{BITS, ROWS}
+use Rattle.layout.specs.declared.Refusal.{Refusal}
 use Rattle.layout.specs.declared.Refusal.TheVariants as refusal
 use Rattle.layout.specs.View.{View, view, header_of}
 use Rattle.diagram.specs.Rows.{Arrow}
@@ -36,14 +38,12 @@ use Rattle.games.specs.Game.{open_move, answerable, answer_to}
 use Rattle.games.specs.Call.{numbers_in_range, game_target, game_bytes, presses, reactions, goals, all_filled, verdict_reply}
 use Rattle.games.proofs.Call.{Ranges}
 use Rattle.game_steps.specs.declared.Asked.{Asked}
-use Rattle.game_steps.specs.declared.Iterated.{Iterated}
-use Rattle.game_steps.specs.declared.Iterated.TheVariants as iterated
+use Rattle.evaluator.specs.declared.Stopped.{Stopped}
+use Rattle.evaluator.specs.declared.Stopped.TheVariants as stopped
 use Rattle.game_steps.specs.Iterate.{AnswerNoted}
 use Rattle.game_steps.specs.Whole.{Given, RoundsPre, RoundsPost, RoundsSay, is_made, is-full, is_spent}
 use Rattle.layers.proofs.Pass.{set_holds}
 use Rattle.game_steps.proofs.Standing.{pair-holds, place-holds}
-use Rattle.game_calls.specs.declared.Response.{Response}
-use Rattle.game_calls.specs.declared.Response.TheVariants as answer
 use Rattle.game_calls.specs.Reacting.{response_reply, open_move_at, response_of, ReactingPre, Reacting}
 
 -- ---- in_range
@@ -103,39 +103,39 @@ open_move-yes g q e f h = h ∙ ap (λ (b : Bool). not b && q) (sym f ∙ e)
 -- ---- respond
 
 module _ (n : ℕ) where
-  pub response_full : {w : Iterated} → w ≡ iterated.Full → response_of n iterated.Full ≡ response_of n w
+  pub response_full : {w : Result ℕ Stopped} → w ≡ Err stopped.Full → response_of n (Err stopped.Full) ≡ response_of n w
   response_full e = ap (response_of n) (sym e)
 
-  pub response_spent : {w : Iterated} → w ≡ iterated.Spent → response_of n iterated.Spent ≡ response_of n w
+  pub response_spent : {w : Result ℕ Stopped} → w ≡ Err stopped.Spent → response_of n (Err stopped.Spent) ≡ response_of n w
   response_spent e = ap (response_of n) (sym e)
 
-  module _ (u : ℕ) {w : Iterated} (e : w ≡ iterated.Made u) {states : ℕ} (p : states ≡ 2 ^ n) where
-    response_by : {b : Bool} → ltb u (2 ^ n) ≡ b → cond b (answer.State u) (answer.Refused refusal.NoAnswer) ≡ response_of n w
-    response_by h = ap (λ (b : Bool). cond b (answer.State u) (answer.Refused refusal.NoAnswer)) (sym h) ∙ ap (response_of n) (sym e)
+  module _ (u : ℕ) {w : Result ℕ Stopped} (e : w ≡ Ok u) {states : ℕ} (p : states ≡ 2 ^ n) where
+    response_by : {b : Bool} → ltb u (2 ^ n) ≡ b → cond b (Ok u) (Err refusal.NoAnswer) ≡ response_of n w
+    response_by h = ap (λ (b : Bool). cond b (Ok u) (Err refusal.NoAnswer)) (sym h) ∙ ap (response_of n) (sym e)
 
-    pub response_state : u < states → answer.State u ≡ response_of n w
+    pub response_state : u < states → Ok u ≡ response_of n w
     response_state l = response_by (true_of (ltb u (2 ^ n)) (lt→ltb u (2 ^ n) (omega arith)))
 
-    pub response_none : states ≤ u → answer.Refused refusal.NoAnswer ≡ response_of n w
+    pub response_none : states ≤ u → Err refusal.NoAnswer ≡ response_of n w
     response_none l = response_by (false_of (ltb u (2 ^ n)) (λ h. let i = ltb→lt u (2 ^ n) h in omega arith))
 
 -- ---- the answer, from what was heard
 
 module _ (k : ℕ) (G M : Pairs) (B : List Bool) (s t n : ℕ) (e : k ≡ 2 ^ n) where
   made-is : (p : Count) (x : ℕ) → AnswerNoted k G M B s t x → (b : Bool) → answerable k G M B s t ≡ b
-      → response_reply (response_of n (iterated.Made x)) ≡ verdict_reply (counted p) b (answer_to k G M B s t)
+      → response_reply (response_of n (Ok x)) ≡ verdict_reply (counted p) b (answer_to k G M B s t)
   made-is p x h false i =
       let z : x ≡ k = h.none i in
-      ap (λ (c : Bool). response_reply (cond c (answer.State x) (answer.Refused refusal.NoAnswer)))
+      ap (λ (c : Bool). response_reply (cond c (Ok x) (Err refusal.NoAnswer)))
       (false_of (ltb x (2 ^ n)) (λ j. let l = ltb→lt x (2 ^ n) j in omega arith))
   made-is p x h true i =
       let w = h.found (subst T (sym i) tt) in
       let l = w.1 in
-      ap (λ (c : Bool). response_reply (cond c (answer.State x) (answer.Refused refusal.NoAnswer))) (true_of (ltb x (2 ^ n)) (lt→ltb x
+      ap (λ (c : Bool). response_reply (cond c (Ok x) (Err refusal.NoAnswer))) (true_of (ltb x (2 ^ n)) (lt→ltb x
       (2 ^ n) (omega arith)))
       ∙ ap valued w.0
 
-  pub reply-is : {v : Verdict} {w : Iterated} → RoundsSay (AnswerNoted k G M B s t) v w
+  pub reply-is : {v : Verdict} {w : Result ℕ Stopped} → RoundsSay (AnswerNoted k G M B s t) v w
       → response_reply (response_of n w) ≡ verdict_reply v (answerable k G M B s t) (answer_to k G M B s t)
   reply-is is-full = refl
   reply-is is_spent = refl
@@ -229,7 +229,8 @@ module _ {old : List ℕ} {goal guest machine x y z s t : ℕ} (p : ReactingPre 
       given = given eb es (open_move-is er eo);
     })
 
-    module _ {Y : View} {w : Iterated} (v : RoundsPost (limits_of bits rows limit rounds) (view rows old) Y bs (asked_of z s t o) w) where
+    module _ {Y : View} {w : Result ℕ Stopped}
+        (v : RoundsPost (limits_of bits rows limit rounds) (view rows old) Y bs (asked_of z s t o) w) where
       post : RoundsPost (limits_of bits (header_of old ROWS) (rows_under (header_of old ROWS) acc) (rounds_under R acc)) W Y bs
           (asked_of z s t o) w
       post = rw er at (rw (el, em) at v)
@@ -237,7 +238,7 @@ module _ {old : List ℕ} {goal guest machine x y z s t : ℕ} (p : ReactingPre 
       pub freeing : Sound Y
       freeing = (post goal guest machine (given eb es (open_move-is er eo))).sound
 
-      pub game_done : {new : List ℕ} → FreeManyPost Y (view rows new) → {r : Response} → r ≡ response_of bits w
+      pub game_done : {new : List ℕ} → FreeManyPost Y (view rows new) → {r : Result ℕ Refusal} → r ≡ response_of bits w
           → Reacting acc R goal guest machine s t old new (response_reply r)
       game_done {new} f {r} e =
           let q = post goal guest machine (given eb es (open_move-is er eo)) in

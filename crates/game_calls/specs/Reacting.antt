@@ -1,10 +1,11 @@
 -- The second call after its checks: what it answers by the rounds. Assumes nothing.
-use Rattle.std.specs.Prelude.{◌≡◌, Bool, true, not, cond, ◌&&◌, List, ℕ, suc, ◌+◌, ◌^◌, ◌<◌, ltb}
+use Rattle.std.specs.Prelude.{◌≡◌, Bool, true, not, cond, ◌&&◌, List, ℕ, suc, ◌+◌, ◌^◌, ◌<◌, ltb, Result, Ok, Err}
 use Rattle.accounts.specs.declared.Terms.{Terms}
 use Rattle.accounts.specs.Terms.{named}
 use Rattle.layout.specs.Places.{BITS, ROWS, FIRST_REGISTER, FIRST_RELATION}
 use Rattle.layout.specs.Refusals.{refusal_number}
 use Rattle.layout.specs.View.{View, view, header_of}
+use Rattle.layout.specs.declared.Refusal.{Refusal}
 use Rattle.layout.specs.declared.Refusal.TheVariants as refusal
 use Rattle.diagram.specs.Keep.{Keeps}
 use Rattle.rows.specs.Used.{rows_of}
@@ -19,25 +20,23 @@ use Rattle.contract.specs.Seen.{seen, SoundWords}
 use Rattle.seek.specs.Walk.{holds_at}
 use Rattle.games.specs.Game.{answerable, answer_to}
 use Rattle.games.specs.Call.{numbers_in_range, presses, reactions, goals, game_verdict, verdict_reply}
-use Rattle.game_steps.specs.declared.Iterated.{Iterated}
-use Rattle.game_steps.specs.declared.Iterated.TheVariants as iterated
-use Rattle.game_calls.specs.declared.Response.{Response}
-use Rattle.game_calls.specs.declared.Response.TheVariants as answer
+use Rattle.evaluator.specs.declared.Stopped.{Stopped}
+use Rattle.evaluator.specs.declared.Stopped.TheVariants as stopped
 
 -- "For each answer that is an enum, a definition gives this paper's number and values for each of the enum's cases"
-abbrev pub response_reply : Response → Reply
-response_reply (answer.State u) = valued u
-response_reply (answer.Refused e) = plain (refusal_number e)
+abbrev pub response_reply : Result ℕ Refusal → Reply
+response_reply (Ok u) = valued u
+response_reply (Err e) = plain (refusal_number e)
 
 -- the press is a guest move of a state outside the goal, by their arrows
 abbrev pub open_move_at : View → ℕ → ℕ → ℕ → ℕ → Bool
 open_move_at W goal guest s t = not (holds_at W goal s 0) && holds_at W guest s t
 
 -- what is answered by what was iterated
-abbrev pub response_of : ℕ → Iterated → Response
-response_of n iterated.Full = answer.Refused refusal.Full
-response_of n iterated.Spent = answer.Refused refusal.Spent
-response_of n (iterated.Made u) = cond (ltb u (2 ^ n)) (answer.State u) (answer.Refused refusal.NoAnswer)
+abbrev pub response_of : ℕ → Result ℕ Stopped → Result ℕ Refusal
+response_of n (Err stopped.Full) = Err refusal.Full
+response_of n (Err stopped.Spent) = Err refusal.Spent
+response_of n (Ok u) = cond (ltb u (2 ^ n)) (Ok u) (Err refusal.NoAnswer)
 
 -- a sound table, numbers in range, and the account named: checks 2, 3 and 14 are passed
 pub record NamedPre (acc : Terms) (old : List ℕ) (goal guest machine s t : ℕ) : Type 0 where

@@ -11,18 +11,12 @@ ghost use Rattle.game_calls.specs.Post.{ReactPost};
 
 use accounts::{Terms, is_named, rounds_under, rows_under};
 use collect::free_many;
-use game_steps::{Asked, Iterated, iterate_rounds};
+use evaluator::Stopped;
+use game_steps::{Asked, iterate_rounds};
 use layout::{Refusal, Table, header_word};
 use modal::Limits;
 use seek::holds;
 use soundness::sound;
-
-// What the second call answers: the state that the machine's move leads to.
-#[derive(Clone, Copy)]
-pub enum Response {
-    State(u32),
-    Refused(Refusal),
-}
 
 // The bytes of mu P (goal or (box guest of diamond machine of P, and diamond guest of true)); where there is no such register or relation,
 // those of others.
@@ -73,18 +67,18 @@ fn is_open_move(words: &[u32], rows: u32, goal: u32, guest: u32, state: u32, pre
 }
 
 // What is answered when the rounds have ended: 15 is decided once the set is made.
-fn respond(bits: u32, iterated: Iterated) -> Response
+fn respond(bits: u32, iterated: Result<u32, Stopped>) -> Result<u32, Refusal>
     requires { bits ≤ 16 }
     ensures { result ≡ response_of bits iterated }
 {
     match iterated {
-        Iterated::Full => Response::Refused(Refusal::Full),
-        Iterated::Spent => Response::Refused(Refusal::Spent),
-        Iterated::Made(u) => {
+        Err(Stopped::Full) => Err(Refusal::Full),
+        Err(Stopped::Spent) => Err(Refusal::Spent),
+        Ok(u) => {
             if u < 1u32 << bits {
-                return Response::State(u);
+                return Ok(u);
             }
-            Response::Refused(Refusal::NoAnswer)
+            Err(Refusal::NoAnswer)
         }
     }
 }
@@ -102,7 +96,7 @@ fn reacting(
     z: u32,
     state: u32,
     press: u32,
-) -> Response
+) -> Result<u32, Refusal>
     requires { ReactingPre words.old goal guest machine x y z state press }
     ensures { Reacting terms most goal guest machine state press words.old words.new (response_reply result) }
 {
@@ -137,7 +131,7 @@ fn react_named(
     machine: u32,
     state: u32,
     press: u32,
-) -> Response
+) -> Result<u32, Refusal>
     requires { NamedPre terms words.old goal guest machine state press }
     ensures { ReactPost terms most goal guest machine state press words.old words.new (response_reply result) }
 {
@@ -145,13 +139,13 @@ fn react_named(
     let y = header_word(words, Table::FIRST_RELATION + (guest as usize));
     let z = header_word(words, Table::FIRST_RELATION + (machine as usize));
     if x == 0 {
-        return Response::Refused(Refusal::Empty);
+        return Err(Refusal::Empty);
     }
     if y == 0 {
-        return Response::Refused(Refusal::Empty);
+        return Err(Refusal::Empty);
     }
     if z == 0 {
-        return Response::Refused(Refusal::Empty);
+        return Err(Refusal::Empty);
     }
     reacting(
         words,
@@ -181,25 +175,25 @@ pub fn react(
     machine: u32,
     state: u32,
     press: u32,
-) -> Response
+) -> Result<u32, Refusal>
     ensures { ReactPost terms most goal guest machine state press words.old words.new (response_reply result) }
 {
     if !sound(words) {
-        return Response::Refused(Refusal::Unsound);
+        return Err(Refusal::Unsound);
     }
     if !in_range(goal, guest, machine) {
-        return Response::Refused(Refusal::Range);
+        return Err(Refusal::Range);
     }
     let bits = header_word(words, Table::BITS);
     let states = 1u32 << bits;
     if state >= states {
-        return Response::Refused(Refusal::Range);
+        return Err(Refusal::Range);
     }
     if press >= states {
-        return Response::Refused(Refusal::Range);
+        return Err(Refusal::Range);
     }
     if !is_named(terms) {
-        return Response::Refused(Refusal::Unlisted);
+        return Err(Refusal::Unlisted);
     }
     react_named(words, terms, most, goal, guest, machine, state, press)
 }

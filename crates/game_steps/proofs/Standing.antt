@@ -1,6 +1,6 @@
 -- The rounds of the game: where their loop stands, and each of its turns and ends. Assumes nothing.
 use mathlib.Core.Path.{◌≡◌, refl, sym, ap, ap₂, ◌∙◌, subst}
-use mathlib.Core.Logic.{◌≢◌, ⊎_elim, inr}
+use mathlib.Core.Logic.{◌≢◌, inr}
 use mathlib.Core.Bool.{Bool, true, false, not, cond, ◌&&◌}
 use mathlib.Core.List.Memᴰ.{head as here}
 use mathlib.Core.List.{List, [], ◌∷◌}
@@ -9,6 +9,7 @@ use Prim.Native.Nat.{ℕ, suc, ◌+◌, ◌*◌, ◌^◌, ◌≤◌, ◌<◌}
 use native.Mathlib.Omega.{arith}
 use lib.Dec.{T}
 use lib.ListN.{length, set}
+use Rattle.std.specs.Prelude.{Result, Ok, Err}
 use Rattle.accounts.specs.declared.Count.{Count}
 use Rattle.accounts.specs.Count.{nothing, another}
 use Rattle.mucalculus.specs.Sets.{mem, same, no_states}
@@ -42,13 +43,14 @@ use Rattle.book.proofs.Verdicts.{settle, run-ticks}
 use Rattle.contract.specs.Seen.{arrow_in}
 use Rattle.modal.specs.declared.Limits.{Limits}
 use Rattle.modal.proofs.Chain.{base-bits}
-use Rattle.evaluator.specs.Scene.{Scene, stack_size, model_in, exist_in, Ready, Answers, run_in, ended_of}
+use Rattle.evaluator.specs.Scene.{evaluated, Scene, stack_size, model_in, exist_in, Ready, Answers, run_in, ended_of}
 use Rattle.evaluator.specs.Whole.{no_places, OncePre, OncePost}
-use Rattle.evaluator.specs.declared.Evaluated.{Evaluated}
-use Rattle.evaluator.specs.declared.Evaluated.TheVariants.{Value, Full, Spent}
+use Rattle.evaluator.specs.declared.Stopped.{Stopped}
+use Rattle.evaluator.specs.declared.Stopped.TheVariants as stopped
+use Rattle.evaluator.specs.declared.Value.{Value}
 use Rattle.evaluator.proofs.Scene.{opened}
 use Rattle.evaluator.proofs.State.{ready-next}
-use Rattle.evaluator.proofs.Outcomes.{Halts, evals-value}
+use Rattle.evaluator.proofs.Outcomes.{evals-value}
 use Rattle.evaluator.proofs.Rounds.{Bound, bind-starts, bind_out, bind-ready, bind_stops, bind-ends, bind-turns, bind-less}
 use Rattle.paths.specs.Runs.{first_of}
 use Rattle.paths.proofs.First.{first-same}
@@ -59,12 +61,10 @@ use Rattle.games.specs.Game.{forcing, forced, set_after}
 use Rattle.games.specs.Call.{body_form}
 use Rattle.games.proofs.Rounds.{Noted, noted-none, noting, noted-next, made_none, made_found, after-size, after-found, still-below}
 use Rattle.games.proofs.Formula.{body-steady, body-means}
-use Rattle.game_steps.specs.Iterate.{note_by, NotePre, halted_of, HoldsGame, IteratePre, AnswerNoted, AnswerOf, is_made, is-full, is_spent}
+use Rattle.game_steps.specs.Iterate.{note_by, NotePre, HoldsGame, IteratePre, AnswerNoted, AnswerOf, is_made, is-full, is_spent}
 use Rattle.game_steps.specs.Iterate.{Iterates}
 use Rattle.game_steps.specs.Iterate.{IteratePost}
 use Rattle.game_steps.specs.declared.Asked.{Asked}
-use Rattle.game_steps.specs.declared.Iterated.{Iterated}
-use Rattle.game_steps.specs.declared.Iterated.TheVariants as iterated
 
 -- ---- sets and arrows
 
@@ -187,33 +187,32 @@ module _ {L : Limits} {W : View} {stack bs : List ℕ} {a : Asked} {σ : Scene} 
     }
 
     -- the rounds are used up
-    pub iterate_out : L.rounds ≤ count.rounds → Iterates L W X stack a σ goal guest machine iterated.Spent
-    iterate_out l = record { value = Spent; last = now; answers = bind_out P.ready S.bound 12 l; told = is_spent }
+    pub iterate_out : L.rounds ≤ count.rounds → Iterates L W X stack a σ goal guest machine (Err stopped.Spent)
+    iterate_out l = record { value = Err stopped.Spent; last = now; answers = bind_out P.ready S.bound 12 l; told = is_spent }
 
-    module _ {Y : View} {last : List ℕ} {r : Evaluated}
+    module _ {Y : View} {last : List ℕ} {r : Result Value Stopped}
         (E : OncePost L X Y now last bs current count r) (more : count.rounds < L.rounds) where
       answered : Answers true L X Y (set now 0 current) last 1 (another count) σ' f 12 r
       answered = E.answers σ' f 12 inner P.part
 
       -- a round has no value
-      pub iterate_halts : Halts r → {w : Iterated} → w ≡ halted_of r → Iterates L W Y stack a σ goal guest machine w
-      iterate_halts h {w} q = record {
+      pub iterate_halts : {s : Stopped} → r ≡ Err s → Iterates L W Y stack a σ goal guest machine (Err s)
+      iterate_halts {s} e = record {
         value = r;
         last = last;
-        answers = bind_stops P.ready S.bound z room answered more h;
-        told = subst (AnswerOf (AnswerNoted k G M B a.state a.press) r) (sym q) (go r h);
+        answers = bind_stops P.ready S.bound z room answered more (s, e);
+        told = subst (λ (x : Result Value Stopped). AnswerOf (AnswerNoted k G M B a.state a.press) x (Err s)) (sym e) (go s);
       }
         where
-          go : (r : Evaluated) → Halts r → AnswerOf (AnswerNoted k G M B a.state a.press) r (halted_of r)
-          go (Value b j q) h = absurd (⊎_elim (λ x. omega arith) (λ x. omega arith) h)
-          go Full h = is-full
-          go Spent h = is_spent
+          go : (s : Stopped) → AnswerOf (AnswerNoted k G M B a.state a.press) (Err s) (Err s)
+          go stopped.Full = is-full
+          go stopped.Spent = is_spent
 
-      module _ {b j : ℕ} {q : Count} (is : r ≡ Value b j q) where
+      module _ {b j : ℕ} {q : Count} (is : r ≡ evaluated b j q) where
         evals : EvalsBy (fn_of L.bits) L.bits L.rows (rows_of X) (rows_of Y) (current ∷ σ.roots) (run_in true L σ' f
             (another count))
             (ends b q)
-        evals = subst (λ (y : Evaluated). EvalsBy (fn_of L.bits) L.bits L.rows (rows_of X) (rows_of Y) (current ∷ σ.roots)
+        evals = subst (λ (y : Result Value Stopped). EvalsBy (fn_of L.bits) L.bits L.rows (rows_of X) (rows_of Y) (current ∷ σ.roots)
             (run_in true L σ' f (another count)) (ended_of y)) is answered.evals
 
         -- the round's value is the next set
@@ -238,9 +237,9 @@ module _ {L : Limits} {W : View} {stack bs : List ℕ} {a : Asked} {σ : Scene} 
             (keeps_denotes evals.kept (here refl) S.bound.turning.denotes)
 
         -- the same set: all is made
-        pub iterate-same : b ≡ current → Iterates L W Y stack a σ goal guest machine (iterated.Made noted)
+        pub iterate-same : b ≡ current → Iterates L W Y stack a σ goal guest machine (Ok noted)
         iterate-same h = record {
-          value = Value b j q;
+          value = evaluated b j q;
           last = last;
           answers = bind-ends P.ready S.bound z room answered more is h;
           told = is_made answer-noted;
@@ -387,16 +386,16 @@ module _ {L : Limits} {words₀ words counts₀ counts stack₀ stack bs : List 
   pub turn-asks : count.rounds < L.rounds → L.rounds < 2 ^ 32 → OncePre L (view L.rows words) stack bs current count
   turn-asks more top = round-asks P.plays own I.stack_size_lem more top
 
-  pub loop-out : L.rounds ≤ count.rounds → IteratePost L (view L.rows words₀) (view L.rows words) stack₀ bs a iterated.Spent
+  pub loop-out : L.rounds ≤ count.rounds → IteratePost L (view L.rows words₀) (view L.rows words) stack₀ bs a (Err stopped.Spent)
   loop-out l σ goal guest machine Q = iterate_out Q (I.stands σ goal guest machine Q) I.stack_size_lem l
 
-  module _ {Y : View} {last : List ℕ} {r : Evaluated}
+  module _ {Y : View} {last : List ℕ} {r : Result Value Stopped}
       (E : OncePost L (view L.rows words) Y stack last bs current count r) (more : count.rounds < L.rounds) where
-    pub loop_halts : Halts r → {w : Iterated} → w ≡ halted_of r → IteratePost L (view L.rows words₀) Y stack₀ bs a w
-    loop_halts h q σ goal guest machine Q = iterate_halts Q (I.stands σ goal guest machine Q) I.stack_size_lem E more h q
+    pub loop_halts : {s : Stopped} → r ≡ Err s → IteratePost L (view L.rows words₀) Y stack₀ bs a (Err s)
+    loop_halts e σ goal guest machine Q = iterate_halts Q (I.stands σ goal guest machine Q) I.stack_size_lem E more e
 
-    module _ {b j : ℕ} {q : Count} (is : r ≡ Value b j q) where
-      pub loop-same : b ≡ current → IteratePost L (view L.rows words₀) Y stack₀ bs a (iterated.Made noted)
+    module _ {b j : ℕ} {q : Count} (is : r ≡ evaluated b j q) where
+      pub loop-same : b ≡ current → IteratePost L (view L.rows words₀) Y stack₀ bs a (Ok noted)
       loop-same h σ goal guest machine Q = iterate-same Q (I.stands σ goal guest machine Q) I.stack_size_lem E more is h
 
       module _ (differs : b ≢ current) (z : length last ≡ length stack) where

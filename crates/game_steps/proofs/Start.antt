@@ -6,6 +6,7 @@ use Prim.Native.Nat.{ℕ, ◌+◌, ◌^◌}
 use native.Mathlib.Omega.{arith}
 use lib.Dec.{T}
 use lib.ListN.{replicate}
+use Rattle.std.specs.Prelude.{Result}
 use Rattle.accounts.specs.Count.{nothing}
 use Rattle.mucalculus.specs.Form.{no_env, steady, inside}
 use Rattle.mucalculus.specs.Means.{means}
@@ -35,7 +36,8 @@ use Rattle.contract.proofs.Roots.{filled_root}
 use Rattle.modal.specs.declared.Limits.{Limits}
 use Rattle.evaluator.specs.Scene.{stack_size, model_in, value_in, ended_of}
 use Rattle.evaluator.specs.Whole.{book_in}
-use Rattle.evaluator.specs.declared.Evaluated.{Evaluated}
+use Rattle.evaluator.specs.declared.Stopped.{Stopped}
+use Rattle.evaluator.specs.declared.Value.{Value}
 use Rattle.evaluator.proofs.Starts.{scene_in, start-base, start-scene}
 use Rattle.games.specs.Call.{body_form, game_form}
 use Rattle.games.proofs.Formula.{body-read, body-bound, game_steady}
@@ -44,10 +46,10 @@ use Rattle.game_steps.specs.Iterate.{HoldsGame, IteratePre, IteratePost, AnswerN
 use Rattle.game_steps.specs.Iterate.{is_made as value_made, is-full as value-full, is_spent as value-spent}
 use Rattle.game_steps.specs.Whole.{Given, RoundsPre, RoundsPost, RoundsSay, is_made, is-full, is_spent}
 use Rattle.game_steps.specs.declared.Asked.{Asked}
-use Rattle.game_steps.specs.declared.Iterated.{Iterated}
 
 -- the run's outcome is the verdict's
-says-verdict : {P : ℕ → Type 0} (lv : List Bool → Fn) (n : ℕ) (rows : Rows) (A : List Bool) (v : Verdict) {y : Evaluated} {r : Iterated}
+says-verdict : {P : ℕ → Type 0} (lv : List Bool → Fn) (n : ℕ) (rows : Rows) (A : List Bool) (v : Verdict)
+    {y : Result Value Stopped} {r : Result ℕ Stopped}
     → AnswerOf P y r → MatchesBy lv n rows (settle A v) (ended_of y) → RoundsSay P v r
 says-verdict lv n rows A (counted q) (value_made h) m = is_made h
 says-verdict lv n rows A full (value_made h) m = absurd m
@@ -94,7 +96,7 @@ module _ {L : Limits} {W : View} {bs : List ℕ} {a : Asked} (p : RoundsPre L W 
     plays = plays p.goal p.guest p.machine p.given;
   }
 
-  pub rounds-done : {Y : View} {r : Iterated} → IteratePost L X Y (replicate stack_size 0) bs a r → RoundsPost L W Y bs a r
+  pub rounds-done : {Y : View} {r : Result ℕ Stopped} → IteratePost L X Y (replicate stack_size 0) bs a r → RoundsPost L W Y bs a r
   rounds-done {Y} {r} E goal guest machine g =
       let w = E (scene_in W) goal guest machine (plays goal guest machine g) in
       let form = game_form goal guest machine in

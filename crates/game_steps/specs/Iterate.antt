@@ -1,5 +1,5 @@
 -- The rounds of the game with one eye on a state and a press: what the making of them asks, and what it ends with. Assumes nothing.
-use Rattle.std.specs.Prelude.{◌≡◌, Bool, true, false, cond, List, ℕ, suc, ◌+◌, ◌^◌, ◌≤◌, ◌<◌, T, set}
+use Rattle.std.specs.Prelude.{◌≡◌, Bool, true, false, cond, List, ℕ, suc, ◌+◌, ◌^◌, ◌≤◌, ◌<◌, T, set, Result, Ok, Err}
 use Rattle.accounts.specs.declared.Count.{Count}
 use Rattle.accounts.specs.Count.{nothing}
 use Rattle.mucalculus.specs.Form.{Pairs, inside}
@@ -8,18 +8,17 @@ use Rattle.layout.specs.Places.{FIRST_RELATION}
 use Rattle.layout.specs.View.{View}
 use Rattle.book.specs.Book.{relations}
 use Rattle.modal.specs.declared.Limits.{Limits}
-use Rattle.evaluator.specs.Scene.{Scene, Ready, Part, Answers, holds_reg, holds_rel}
+use Rattle.evaluator.specs.Scene.{evaluated, Scene, Ready, Part, Answers, holds_reg, holds_rel}
 use Rattle.evaluator.specs.Whole.{no_places}
-use Rattle.evaluator.specs.declared.Evaluated.{Evaluated}
-use Rattle.evaluator.specs.declared.Evaluated.TheVariants as answer
+use Rattle.evaluator.specs.declared.Stopped.{Stopped}
+use Rattle.evaluator.specs.declared.Stopped.TheVariants as stopped
+use Rattle.evaluator.specs.declared.Value.{Value}
 use Rattle.paths.specs.Runs.{first_of}
 use Rattle.seek.specs.Walk.{HoldsPre, holds_at}
 use Rattle.seek.specs.Search.{next_in}
 use Rattle.games.specs.Game.{answer_to, open_move, answerable}
 use Rattle.games.specs.Call.{body_form, game_form}
 use Rattle.game_steps.specs.declared.Asked.{Asked}
-use Rattle.game_steps.specs.declared.Iterated.{Iterated}
-use Rattle.game_steps.specs.declared.Iterated.TheVariants as iterated
 
 -- ---- one round
 
@@ -38,12 +37,6 @@ pub record NotePre (n : ℕ) (W : View) (a : Asked) (last next : ℕ) : Type 0 w
   pub machine : HoldsPre W a.machine
   pub last-is : HoldsPre W last
   pub next-is : HoldsPre W next
-
--- what becomes of the rounds where one of them has no value
-abbrev pub halted_of : Evaluated → Iterated
-halted_of (answer.Value a e q) = iterated.Spent
-halted_of answer.Full = iterated.Full
-halted_of answer.Spent = iterated.Spent
 
 -- ---- all rounds
 
@@ -72,21 +65,21 @@ pub record AnswerNoted (k : ℕ) (G M : Pairs) (B : List Bool) (s t x : ℕ) : T
   pub found : T (answerable k G M B s t) → (x ≡ answer_to k G M B s t) × (x < k)
 
 -- the rounds' answer: what was noted, where the set is made
-pub data AnswerOf (P : ℕ → Type 0) : Evaluated → Iterated → Type 0 where
-  is_made : {a e x : ℕ} {q : Count} → P x → AnswerOf P (answer.Value a e q) (iterated.Made x)
-  is-full : AnswerOf P answer.Full iterated.Full
-  is_spent : AnswerOf P answer.Spent iterated.Spent
+pub data AnswerOf (P : ℕ → Type 0) : Result Value Stopped → Result ℕ Stopped → Type 0 where
+  is_made : {a e x : ℕ} {q : Count} → P x → AnswerOf P (evaluated a e q) (Ok x)
+  is-full : AnswerOf P (Err stopped.Full) (Err stopped.Full)
+  is_spent : AnswerOf P (Err stopped.Spent) (Err stopped.Spent)
 
 -- the rounds are those of the game's formula
 pub record Iterates (L : Limits) (W X : View) (stack : List ℕ) (a : Asked) (σ : Scene) (goal guest machine : ℕ)
-    (r : Iterated) : Type 0 where
-  pub value : Evaluated
+    (r : Result ℕ Stopped) : Type 0 where
+  pub value : Result Value Stopped
   pub last : List ℕ
   pub answers : Answers true L W X stack last 0 nothing σ (game_form goal guest machine) 12 value
   pub told : AnswerOf
       (AnswerNoted (2 ^ L.bits) (inside (σ.rel guest)) (inside (σ.rel machine)) (inside (σ.reg goal)) a.state a.press) value r
 
 -- what they promise, of every game whose scene words and stack hold
-abbrev pub IteratePost : Limits → View → View → List ℕ → List ℕ → Asked → Iterated → Type 0
+abbrev pub IteratePost : Limits → View → View → List ℕ → List ℕ → Asked → Result ℕ Stopped → Type 0
 IteratePost L W X stack bs a r =
     (σ : Scene) (goal guest machine : ℕ) → HoldsGame L W stack bs a σ goal guest machine → Iterates L W X stack a σ goal guest machine r

@@ -1,5 +1,5 @@
 -- The rounds from a sound table: their outcome is the verdict of the book that the table stands for. Assumes nothing.
-use Rattle.std.specs.Prelude.{◌≡◌, true, List, ℕ, suc, ◌+◌, ◌^◌, ◌≤◌, ◌<◌}
+use Rattle.std.specs.Prelude.{◌≡◌, true, List, ℕ, suc, ◌+◌, ◌^◌, ◌≤◌, ◌<◌, Result, Ok, Err}
 use Rattle.accounts.specs.declared.Count.{Count}
 use Rattle.accounts.specs.Count.{nothing}
 use Rattle.mucalculus.specs.Form.{no_env}
@@ -15,12 +15,12 @@ use Rattle.book.specs.Ticks.{ticks, Verdict, counted, full, spent, verdict}
 use Rattle.book.specs.Book.{model_of, live_of, registers, relations}
 use Rattle.modal.specs.declared.Limits.{Limits}
 use Rattle.evaluator.specs.Whole.{book_in}
+use Rattle.evaluator.specs.declared.Stopped.{Stopped}
+use Rattle.evaluator.specs.declared.Stopped.TheVariants as stopped
 use Rattle.games.specs.Game.{open_move}
 use Rattle.games.specs.Call.{game_form, game_bytes, presses, reactions, goals, all_filled}
 use Rattle.game_steps.specs.Iterate.{AnswerNoted}
 use Rattle.game_steps.specs.declared.Asked.{Asked}
-use Rattle.game_steps.specs.declared.Iterated.{Iterated}
-use Rattle.game_steps.specs.declared.Iterated.TheVariants as iterated
 
 -- goal, guest and machine are filled, the bytes are those of their game, the asked arrow is the machine's, and whether the press is open is
 -- known
@@ -47,13 +47,13 @@ pub record RoundsPre (L : Limits) (W : View) (bs : List ℕ) (a : Asked) : Type 
   pub given : Given L W bs a goal guest machine
 
 -- the verdict of the steps, and what was noted where all are counted
-pub data RoundsSay (P : ℕ → Type 0) : Verdict → Iterated → Type 0 where
-  is_made : {q : Count} {x : ℕ} → P x → RoundsSay P (counted q) (iterated.Made x)
-  is-full : RoundsSay P full iterated.Full
-  is_spent : RoundsSay P spent iterated.Spent
+pub data RoundsSay (P : ℕ → Type 0) : Verdict → Result ℕ Stopped → Type 0 where
+  is_made : {q : Count} {x : ℕ} → P x → RoundsSay P (counted q) (Ok x)
+  is-full : RoundsSay P full (Err stopped.Full)
+  is_spent : RoundsSay P spent (Err stopped.Spent)
 
 -- a sound table, nothing touched but unneeded rows, the index and remembered results, and the book's verdict
-pub record Rounds (L : Limits) (W X : View) (a : Asked) (goal guest machine : ℕ) (r : Iterated) : Type 0 where
+pub record Rounds (L : Limits) (W X : View) (a : Asked) (goal guest machine : ℕ) (r : Result ℕ Stopped) : Type 0 where
   pub sound : Sound X
   pub frame : OpFrame W X
   pub kept : Keeps (rows_of W) (rows_of X) (filled W)
@@ -64,5 +64,5 @@ pub record Rounds (L : Limits) (W X : View) (a : Asked) (goal guest machine : �
       (game_form goal guest machine))) r
 
 -- what they promise, of every game that is given
-abbrev pub RoundsPost : Limits → View → View → List ℕ → Asked → Iterated → Type 0
+abbrev pub RoundsPost : Limits → View → View → List ℕ → Asked → Result ℕ Stopped → Type 0
 RoundsPost L W X bs a r = (goal guest machine : ℕ) → Given L W bs a goal guest machine → Rounds L W X a goal guest machine r

@@ -2,13 +2,11 @@
 // enters the set.
 #![tactic(auto)]
 
-ghost use Rattle.std.specs.Prelude.{◌≡◌};
-ghost use Rattle.game_steps.specs.Iterate.{halted_of};
 ghost use Rattle.game_steps.specs.Posts.{NoteAsks, NoteGives, IterateAsks, IterateGives, RoundsAsk, RoundsGive};
 
 use accounts::Count;
 use counting::{Counts, begin};
-use evaluator::{Evaluated, Stack, evaluate_round};
+use evaluator::{Stack, Stopped, evaluate_round};
 use layout::Table;
 use memory::forget;
 use modal::Limits;
@@ -16,20 +14,13 @@ use seek::{holds, least_next};
 
 // What the machine is asked: the arrow of its relation, the state and the guest's press; and whether the press is open, a guest move of a
 // state outside the goal.
+// No Option: a press that is not open is asked for all the same, and its rounds are made.
 #[derive(Clone, Copy)]
 pub struct Asked {
     pub machine: u32,
     pub state: u32,
     pub press: u32,
     pub open_move: bool,
-}
-
-// What becomes of the rounds: the set is made, and the answer that was noted, 2^n where there is none; or why it is not made.
-#[derive(Clone, Copy)]
-pub enum Iterated {
-    Made(u32),
-    Full,
-    Spent,
 }
 
 // The answer noted after a round that made the set of arrow `next` from the one of arrow `last`: of an open press the round in which the
@@ -57,22 +48,8 @@ fn note(words: &[u32], limits: Limits, asked: Asked, noted: u32, last: u32, next
     )
 }
 
-// What becomes of the rounds where one of them has no value.
-fn halted(value: Evaluated) -> Iterated
-    ensures { result ≡ halted_of value }
-{
-    match value {
-        Evaluated::Full => Iterated::Full,
-        Evaluated::Spent => Iterated::Spent,
-        Evaluated::Value {
-            arrow: _,
-            next: _,
-            count: _,
-        } => Iterated::Spent,
-    }
-}
-
-// Makes round after round of the game's formula in `bytes`, the current set being live, until a round gives the same set again.
+// Makes round after round of the game's formula in `bytes`, the current set being live, until a round gives the same set again. Answers
+// what was noted, 2^n where there is no answer; or why the set is not made.
 fn iterate(
     words: &mut [u32],
     counts: &mut [u32],
@@ -80,35 +57,33 @@ fn iterate(
     bytes: &[u8],
     limits: Limits,
     asked: Asked,
-) -> Iterated
+) -> Result<u32, Stopped>
     requires { IterateAsks limits words.old counts.old stack.old bytes.now asked }
     ensures { IterateGives limits words.old words.new stack.old bytes.now asked result }
 {
     let mut noted = 1u32 << limits.bits;
     let mut current = Table::NOTHING;
     let mut counted = Count { rounds: 0, peak: 0 };
+    // Not a for: the rounds are counted in what each turn answers.
     while counted.rounds < limits.rounds {
-        let value = evaluate_round(words, counts, stack, bytes, limits, current, counted);
-        let Evaluated::Value {
-            arrow: a,
-            next: _,
-            count: total,
-        } = value
-        else {
-            return halted(value);
-        };
-        if a == current {
-            return Iterated::Made(noted);
+        let value = evaluate_round(words, counts, stack, bytes, limits, current, counted)?;
+        if value.arrow == current {
+            return Ok(noted);
         }
-        noted = note(words, limits, asked, noted, current, a);
-        current = a;
-        counted = total;
+        noted = note(words, limits, asked, noted, current, value.arrow);
+        current = value.arrow;
+        counted = value.count;
     }
-    Iterated::Spent
+    Err(Stopped::Spent)
 }
 
 // Makes the rounds of the game's formula again, with nothing remembered before.
-pub fn iterate_rounds(words: &mut [u32], limits: Limits, bytes: &[u8], asked: Asked) -> Iterated
+pub fn iterate_rounds(
+    words: &mut [u32],
+    limits: Limits,
+    bytes: &[u8],
+    asked: Asked,
+) -> Result<u32, Stopped>
     requires { RoundsAsk limits words.old bytes.now asked }
     ensures { RoundsGive limits words.old words.new bytes.now asked result }
 {

@@ -1,4 +1,5 @@
 -- Laws of what specs/Next.antt defines. Assumes nothing.
+use Rattle.std.specs.Prelude.{Result}
 use mathlib.Core.Path.{◌≡◌, refl, sym, ap, ap₂, ◌∙◌, subst}
 use mathlib.Core.Logic.{⊎_elim}
 use mathlib.Core.Bool.{Bool, true, false, ◌&&◌}
@@ -20,7 +21,6 @@ use Rattle.mucalculus.specs.Means.{union, sometimes}
 use Rattle.layout.specs.View.{View}
 use Rattle.diagram.specs.Level.{Fn}
 use Rattle.diagram.specs.Rows.{Arrow, den}
-use Rattle.diagram.specs.Even.{even}
 use Rattle.diagram.specs.Post.{Denotes}
 use Rattle.diagram.specs.Keep.{Keeps}
 use Rattle.diagram.proofs.Keep.{keeps_arrow, keeps_denotes}
@@ -28,8 +28,9 @@ use Rattle.diagram.specs.Steps.{or_f}
 use Rattle.rows.specs.Used.{rows_of}
 use Rattle.rows.specs.Filled.{filled}
 use Rattle.collect.specs.Lent.{live}
+use Rattle.table.specs.declared.Full.{Full}
+use Rattle.counting.specs.Taken.{taken, ran_out}
 use Rattle.counting.specs.declared.Taken.{Taken}
-use Rattle.counting.specs.declared.Taken.TheVariants as taken
 use Rattle.steps.specs.declared.Step.TheVariants.{Or}
 use Rattle.steps.specs.Steps.{StepPre}
 use Rattle.steps.proofs.Steps.{live-arrows, live_same}
@@ -88,7 +89,7 @@ module _ {n N limit : ℕ} {W : View} {t b x : ℕ} (p : NextPre n N limit W t b
       → Held (2 * n) (rows_of W) (live W lent) (F ∷ fs)
   held-live h d = held_alike (alike_end (filled W) x) (held-push h d)
 
-  module _ {X : View} {o : Taken} (d : DiamondPost n N limit W X lent t x (uncounted N) o) where
+  module _ {X : View} {o : Result Taken Full} (d : DiamondPost n N limit W X lent t x (uncounted N) o) where
     -- what is counted after the diamond
     abbrev dia_count : List Fn → Pairs → List Bool → Count
     dia_count fs R L = needing_all (uncounted N) (dia_needs n (fn_of n L ∷ fs) R L)
@@ -106,17 +107,17 @@ module _ {n N limit : ℕ} {W : View} {t b x : ℕ} (p : NextPre n N limit W t b
         let r2 = subst (λ (T : Fn). Q T (fn_of n L) (diamond_f n T (fn_of n L))) (denoted dt) r1 in
         subst (λ (G : Fn). Q (fn_of_pairs n R) (fn_of n L) G) (sym (diamond-exact n R L)) r2
 
-    pub next-full : o ≡ taken.Full → NextPost n N limit W X t b x taken.Full
+    pub next-full : o ≡ ran_out → NextPost n N limit W X t b x ran_out
     next-full e fs R B L h dt db dx =
         let D = sometimes (2 ^ n) R L in
         let ls = fn_of n L ∷ fs in
         let k = two_need n ls (union (2 ^ n)) B D in
         let G : Fn = fn_of n (union (2 ^ n) B D) in
         let q = needing_all (uncounted N) (layer_needs n fs R B L) in
-        subst (λ (c : Bool). Ran n N W X (live W lent) c G q taken.Full) (sym (fit_append limit (dia_needs n ls R L) (k ∷ [])))
+        subst (λ (c : Bool). Ran n N W X (live W lent) c G q ran_out) (sym (fit_append limit (dia_needs n ls R L) (k ∷ [])))
         (ran_stop (fit limit (k ∷ [])) G q e (ran_dia fs R L h dt dx))
 
-    module _ {c : ℕ} {q : Count} (e : o ≡ taken.At c q) where
+    module _ {c : ℕ} {q : Count} (e : o ≡ taken c q) where
       k1 : Keeps (rows_of W) (rows_of X) (live W lent)
       k1 = ran_kept e (d all all_held)
 
@@ -129,7 +130,7 @@ module _ {n N limit : ℕ} {W : View} {t b x : ℕ} (p : NextPre n N limit W t b
       pub or-asks : StepPre (2 * n) N limit X lent (Or b c)
       or-asks = step-pre or-base (kept-lent W lent k1) (keeps_arrow k1 b live_b, (ran_value e (d all all_held)).arrow)
 
-      pub next-ends : {Y : View} {u : Taken}
+      pub next-ends : {Y : View} {u : Result Taken Full}
           → Took n N limit X Y (b ∷ c ∷ live X lent) q u (or_f (den (2 * n) (rows_of X) b) (den (2 * n) (rows_of X) c))
           → NextPost n N limit W Y t b x u
       next-ends {Y} {u} v fs R B L h dt db dx =

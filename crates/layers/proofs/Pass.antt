@@ -1,4 +1,5 @@
 -- Laws of what specs/Pass.antt defines. Assumes nothing.
+use Rattle.std.specs.Prelude.{Option, Some, None, Result, Ok, Err}
 use mathlib.Core.Path.{◌≡◌, refl, sym, ap, ap₂, ◌∙◌, subst}
 use mathlib.Core.Logic.{◌≢◌}
 use mathlib.Core.Bool.{Bool, true, false, ◌&&◌, ◌||◌, true≢false}
@@ -20,8 +21,9 @@ use Rattle.diagram.specs.Post.{Denotes}
 use Rattle.diagram.proofs.Keep.{keeps_denotes}
 use Rattle.rows.specs.Used.{rows_of}
 use Rattle.rows.specs.Filled.{filled}
+use Rattle.table.specs.declared.Full.{Full}
+use Rattle.counting.specs.Taken.{taken, ran_out}
 use Rattle.counting.specs.declared.Taken.{Taken}
-use Rattle.counting.specs.declared.Taken.TheVariants as taken
 use Rattle.collect.proofs.Answers.{sound-base}
 use Rattle.book.specs.States.{pair_val}
 use Rattle.book.proofs.States.{now_of-pair_val}
@@ -36,12 +38,16 @@ use Rattle.paths.proofs.Layers.{last-lt}
 use Rattle.seek.specs.Walk.{HoldsPre, holds_at}
 use Rattle.seek.specs.Search.{in_both}
 use Rattle.seek.proofs.Search.{NoneBelow, none-next}
+use Rattle.layers.specs.declared.Meeting.{Meeting}
 use Rattle.layers.specs.Next.{NextPost}
 use Rattle.layers.specs.Scene.{Scene, Layered, layer_of, needs_of}
 use Rattle.layers.proofs.Scene.{layer-sized, layered_start, layered_base, layered_next, layered_full, moved_on, all-kept, last-kept}
 use Rattle.layers.proofs.Scene.{after-wf, fits_next, full-after}
-use Rattle.layers.specs.declared.Reached.TheVariants as reached
 use Rattle.layers.specs.Pass.{PassPre, last_of, Steps, Passed}
+
+-- the answer that has the last layer's number d and the state s
+abbrev pub met : ℕ → ℕ → Result (Option Meeting) Full
+met d s = Ok (Some (record { layer = d; state = s }))
 
 -- the pass ends at layer j
 abbrev pub stops_at : {n : ℕ} {W : View} {t b : ℕ} → Scene n W t b → List Bool → ℕ → Bool
@@ -113,7 +119,7 @@ module _ {n N limit : ℕ} {W : View} {t a b : ℕ} (p : PassPre n N limit W t a
           now.layered.layer-is)
 
       -- the layer shares a state with A
-      pub pass_meets : s < 2 ^ n → Passed n limit W X t b S A (reached.At d s)
+      pub pass_meets : s < 2 ^ n → Passed n limit W X t b S A (met d s)
       pass_meets l =
           let m : meets (2 ^ n) A (layer_of S d)
           ≡ true = true_of _ (lt→ltb (common (2 ^ n) A (layer_of S d)) (2 ^ n) (subst (λ (c : ℕ). c < 2 ^ n) least-is l)) in
@@ -139,17 +145,17 @@ module _ {n N limit : ℕ} {W : View} {t a b : ℕ} (p : PassPre n N limit W t a
         passed : NoneBelow (stops_at S A) (d + 1)
         passed = none-next (stops_at S A) d now.before (ap₂ ◌||◌ apart now.grew)
 
-        module _ {Y : View} {o : Taken} (v : NextPost n N limit X Y t b x o) where
+        module _ {Y : View} {o : Result Taken Full} (v : NextPost n N limit X Y t b x o) where
           after : Steps n W Y
           after = record { moved = moved_on p.start now.layered v; kept = all-kept p.start now.layered v }
 
           -- the next layer is full
-          pub pass_full : o ≡ taken.Full → Passed n limit W Y t b S A reached.Full
+          pub pass_full : o ≡ ran_out → Passed n limit W Y t b S A (Err (record {}))
           pass_full e =
               let h = before_last S A (d + 1) passed in
               record { steps = after; ends = full-after limit S d (last_of S A) (omega arith) (layered_full p.start now.layered v e) }
 
-          module _ {y : ℕ} {c : Count} (e : o ≡ taken.At y c) where
+          module _ {y : ℕ} {c : Count} (e : o ≡ taken y c) where
             next : Layered n W Y t b S (suc d) y
             next = (layered_next p.start now.layered v e).0
 
@@ -160,7 +166,7 @@ module _ {n N limit : ℕ} {W : View} {t a b : ℕ} (p : PassPre n N limit W t a
             old = keeps_denotes (last-kept p.start now.layered v) (append_right (filled X) (here refl)) now.layered.layer-is
 
             -- it is the one before
-            pub pass_still : y ≡ x → Passed n limit W Y t b S A reached.Nothing
+            pub pass_still : y ≡ x → Passed n limit W Y t b S A (Ok None)
             pass_still z =
                 let t = arrow-same n N (after-wf p.start now.layered v) (layer_of S d) (layer_of S (suc d)) old next.layer-is
                 (layer-sized S d) (layer-sized S (suc d)) z in

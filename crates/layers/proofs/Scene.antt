@@ -1,4 +1,5 @@
 -- Laws of what specs/Scene.antt defines. Assumes nothing.
+use Rattle.std.specs.Prelude.{Result}
 use mathlib.Core.Path.{◌≡◌, refl, sym, ◌∙◌, subst}
 use mathlib.Core.Bool.{Bool, true, false, ◌&&◌}
 use mathlib.Core.List.Memᴰ.{append_left}
@@ -20,9 +21,9 @@ use Rattle.rows.specs.Used.{rows_of}
 use Rattle.rows.specs.Filled.{filled}
 use Rattle.rows.proofs.Filled.{filled-arrow}
 use Rattle.table.specs.Make.{result}
-use Rattle.counting.specs.Taken.{made_in, count_in}
+use Rattle.table.specs.declared.Full.{Full}
+use Rattle.counting.specs.Taken.{taken, ran_out, made_in, count_in}
 use Rattle.counting.specs.declared.Taken.{Taken}
-use Rattle.counting.specs.declared.Taken.TheVariants as taken
 use Rattle.operations.specs.Work.{OpFrame}
 use Rattle.steps.proofs.Steps.{live_same}
 use Rattle.book.specs.Bridge.{fn_of, Sized}
@@ -77,11 +78,11 @@ module _ {n N limit : ℕ} {W : View} {t b : ℕ} (p : Start n N limit W t b) wh
       even = λ v w h. q.layer-is.same v ∙ fn_of-even n (layer_of S i) v w h ∙ sym (q.layer-is.same w);
     }
 
-    module _ {Y : View} {o : Taken} (s : NextPost n N limit X Y t b x o) where
+    module _ {Y : View} {o : Result Taken Full} (s : NextPost n N limit X Y t b x o) where
       abbrev layer_needs_lem : List ℕ
       layer_needs_lem = layer_needs n S.fs S.R S.B (layer_of S i)
 
-      abbrev Matches : Taken → Type 0
+      abbrev Matches : Result Taken Full → Type 0
       Matches z =
           PairMatches n (rows_of Y) (fit limit layer_needs_lem) (fn_of n (layer_of S (suc i))) (needing_all (uncounted N) layer_needs_lem)
           (result (made_in z)) (count_in z)
@@ -110,7 +111,7 @@ module _ {n N limit : ℕ} {W : View} {t b : ℕ} (p : Start n N limit W t b) wh
       after-wf = ran.evals.wf
 
       -- the next layer
-      pub layered_next : {y : ℕ} {q : Count} → o ≡ taken.At y q
+      pub layered_next : {y : ℕ} {q : Count} → o ≡ taken y q
           → Layered n W Y t b S (suc i) y × (fit limit (layer_needs n S.fs S.R S.B (layer_of S i)) ≡ true)
       layered_next {q = q} e =
           let m = matches_at n (rows_of Y) (needing_all (uncounted N) layer_needs_lem) q (fit limit layer_needs_lem)
@@ -118,9 +119,9 @@ module _ {n N limit : ℕ} {W : View} {t b : ℕ} (p : Start n N limit W t b) wh
           (record { moved = moved_on; kept = kept_on; layer-is = m.1 }, m.0)
 
       -- it is full
-      pub layered_full : o ≡ taken.Full → fit limit (layer_needs n S.fs S.R S.B (layer_of S i)) ≡ false
+      pub layered_full : o ≡ ran_out → fit limit (layer_needs n S.fs S.R S.B (layer_of S i)) ≡ false
       layered_full e =
-          matches_full n (rows_of Y) (fn_of n (layer_of S (suc i))) (needing_all (uncounted N) layer_needs_lem) (count_in taken.Full)
+          matches_full n (rows_of Y) (fn_of n (layer_of S (suc i))) (needing_all (uncounted N) layer_needs_lem) (count_in ran_out)
           (fit limit layer_needs_lem) (subst Matches e ran.evals.result)
 
 -- ---- needs

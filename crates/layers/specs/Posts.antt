@@ -1,10 +1,11 @@
 -- What the layers ask of the words and promise of them, by name. Each is a record or a promise over the view, and that the counts are
 -- right. Assumes nothing.
-use Rattle.std.specs.Prelude.{List, ℕ}
+use Rattle.std.specs.Prelude.{List, ℕ, Option, Result}
+use Rattle.table.specs.declared.Full.{Full}
 use Rattle.counting.specs.declared.Taken.{Taken}
 use Rattle.modal.specs.declared.Limits.{Limits}
 use Rattle.modal.specs.Posts.{view_in, Counted}
-use Rattle.layers.specs.declared.Reached.{Reached}
+use Rattle.layers.specs.declared.Meeting.{Meeting}
 use Rattle.layers.specs.Next.{NextPre, NextPost}
 use Rattle.layers.specs.Again.{AgainPre, AgainPost}
 use Rattle.layers.specs.Pass.{PassPre, PassPost}
@@ -26,7 +27,7 @@ module _ (l : Limits) (words counts : List ℕ) where
 -- after a call: what they give
 module _ (l : Limits) (before after counts : List ℕ) where
   -- the next layer, b OR diamond of the last one, exactly where its needs fit the limit
-  abbrev pub NextGives : (relation b last : ℕ) (taken : Taken) → Type 0
+  abbrev pub NextGives : (relation b last : ℕ) (taken : Result Taken Full) → Type 0
   NextGives relation b last taken =
       Counted l after counts (NextPost l.bits l.rows l.limit (view_in l before) (view_in l after) relation b last taken)
 
@@ -35,6 +36,6 @@ module _ (l : Limits) (before after counts : List ℕ) where
   AgainGives relation b j layer = Counted l after counts (AgainPost l.bits (view_in l before) (view_in l after) relation b j layer)
 
   -- where the pass ends: at a layer that shares a state with a, at none, or where the needs do not fit
-  abbrev pub PassGives : (relation a b : ℕ) (reached : Reached) → Type 0
+  abbrev pub PassGives : (relation a b : ℕ) (reached : Result (Option Meeting) Full) → Type 0
   PassGives relation a b reached =
       Counted l after counts (PassPost l.bits l.limit (view_in l before) (view_in l after) relation a b reached)

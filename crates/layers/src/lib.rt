@@ -8,13 +8,13 @@ use counting::{Taken, take};
 use modal::{Limits, diamond};
 use seek::least_common;
 use steps::Step;
+use table::Full;
 
-// What the first pass ends with: the last layer's number and the least state that it shares with the start; or none.
+// Where the first pass meets the start: the last layer's number and the least state that it shares with the start.
 #[derive(Clone, Copy)]
-pub enum Reached {
-    At(u32, u32),
-    Nothing,
-    Full,
+pub struct Meeting {
+    pub layer: u32,
+    pub state: u32,
 }
 
 // The layer after the last one: b OR diamond of it. Only the last layer is live, until the next is made. No peak is asked: one that is N
@@ -26,7 +26,7 @@ fn next_layer(
     relation: u32,
     b: u32,
     last: u32,
-) -> Taken
+) -> Result<Taken, Full>
     requires { NextAsks limits words.old counts.old relation b last }
     ensures { NextGives limits words.old words.new counts.new relation b last result }
 {
@@ -36,11 +36,7 @@ fn next_layer(
         peak: limits.rows,
     };
     let roots = [last];
-    let Taken::At { arrow: d, count: q } = diamond(
-        words, counts, limits, &roots, relation, last, uncounted,
-    ) else {
-        return Taken::Full;
-    };
+    let before = diamond(words, counts, limits, &roots, relation, last, uncounted)?;
     take(
         words,
         counts,
@@ -48,8 +44,8 @@ fn next_layer(
         levels,
         limits.limit,
         &roots,
-        Step::Or(b, d),
-        q,
+        Step::Or(b, before.arrow),
+        before.count,
     )
 }
 
@@ -66,14 +62,11 @@ pub fn make_layer(
     ensures { AgainGives limits words.old words.new counts.new relation b j result }
 {
     let mut x = b;
-    let mut i = 0;
-    while i < j {
-        let Taken::At { arrow: y, count: _ } = next_layer(words, counts, limits, relation, b, x)
-        else {
+    for _ in 0..j {
+        let Ok(next) = next_layer(words, counts, limits, relation, b, x) else {
             return x;
         };
-        x = y;
-        i += 1;
+        x = next.arrow;
     }
     x
 }
@@ -86,26 +79,24 @@ pub fn reach(
     relation: u32,
     a: u32,
     b: u32,
-) -> Reached
+) -> Result<Option<Meeting>, Full>
     requires { PassAsks limits words.old counts.old relation a b }
     ensures { PassGives limits words.old words.new counts.new relation a b result }
 {
     let states = 1u32 << limits.bits;
     let mut x = b;
     let mut d = 0;
+    // Not a for: it ends where a layer shares a state with a or no longer grows, at no count.
     loop {
         let s = least_common(words, limits.rows, limits.bits, a, x);
         if s < states {
-            return Reached::At(d, s);
+            return Ok(Some(Meeting { layer: d, state: s }));
         }
-        let Taken::At { arrow: y, count: _ } = next_layer(words, counts, limits, relation, b, x)
-        else {
-            return Reached::Full;
-        };
-        if y == x {
-            return Reached::Nothing;
+        let next = next_layer(words, counts, limits, relation, b, x)?;
+        if next.arrow == x {
+            return Ok(None);
         }
-        x = y;
+        x = next.arrow;
         d += 1;
     }
 }

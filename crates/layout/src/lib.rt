@@ -141,25 +141,27 @@ pub enum Refusal {
 }
 
 // The number of a refusal.
-pub fn refusal_number(r: Refusal) -> u32
-    ensures { result ≡ refusal_number r }
-{
-    match r {
-        Refusal::Sizes => 1,
-        Refusal::Unsound => 2,
-        Refusal::Occupied => 13,
-        Refusal::Range => 3,
-        Refusal::Syntax => 4,
-        Refusal::Unbound => 5,
-        Refusal::Vacuous => 12,
-        Refusal::Odd => 6,
-        Refusal::Empty => 7,
-        Refusal::Full => 8,
-        Refusal::Spent => 9,
-        Refusal::NoRun => 10,
-        Refusal::Short => 11,
-        Refusal::Unlisted => 14,
-        Refusal::NoAnswer => 15,
+impl From<Refusal> for u32 {
+    ghost from_gives = { λ r k. k ≡ refusal_number r };
+
+    fn from(r: Refusal) -> u32 {
+        match r {
+            Refusal::Sizes => 1,
+            Refusal::Unsound => 2,
+            Refusal::Occupied => 13,
+            Refusal::Range => 3,
+            Refusal::Syntax => 4,
+            Refusal::Unbound => 5,
+            Refusal::Vacuous => 12,
+            Refusal::Odd => 6,
+            Refusal::Empty => 7,
+            Refusal::Full => 8,
+            Refusal::Spent => 9,
+            Refusal::NoRun => 10,
+            Refusal::Short => 11,
+            Refusal::Unlisted => 14,
+            Refusal::NoAnswer => 15,
+        }
     }
 }
 
@@ -326,6 +328,7 @@ pub fn register_filled(words: &[u32], r: u32) -> bool
 }
 
 // Whether relation t of any words is filled: none but the first 8 is.
+// A twin of three lines: one function for both would take the bound and the place, and its contract both definitions.
 pub fn relation_filled(words: &[u32], t: u32) -> bool
     ensures { result ≡ filled_relation words.now t }
 {

@@ -6,7 +6,9 @@ use Prim.Native.Nat.{ℕ, suc, ◌+◌, ◌-◌, ◌≤◌, ◌<◌}
 use native.Mathlib.Omega.{arith}
 use lib.Dec.{T}
 use lib.ListN.{length}
+use Rattle.std.specs.Prelude.{Result}
 use Rattle.mucalculus.specs.Form.{inside}
+use Rattle.layout.specs.declared.Refusal.{Refusal}
 use Rattle.layout.specs.Refusals.{keeps_all}
 use Rattle.layout.specs.Places.{BITS, ROWS, VALID, FIRST_RELATION}
 use Rattle.layout.specs.View.{View, view, header_of}
@@ -28,7 +30,6 @@ use Rattle.formula_steps.proofs.After.{relation-is, same-table, rows-kept, words
 use Rattle.logs.specs.Runs.{moment_at, log_outcome}
 use Rattle.logs.specs.Call.{logs_fit, last_moment, log_ends, logged}
 use Rattle.logs.proofs.Call.{fits_out, says-one, says_three, says_seven, says-outcome}
-use Rattle.moments.specs.declared.Logged.{Logged}
 use Rattle.moments.specs.Sets.{Logs}
 use Rattle.moments.specs.Find.{logged_reply}
 use Rattle.log_calls.specs.Search.{Named, SearchPre, Searched, SearchPost}
@@ -135,7 +136,7 @@ module _ {t : ℕ} (one two old : List ℕ) (f : T (logs_fit (length one) (lengt
       let q : suc (z - 1) ≡ header_of old (FIRST_RELATION + t) = omega arith in
       says-outcome (book_of (seen old)) t one two list f r (relation-is old r q)
 
-  pub call_ends : (new list left : List ℕ) {w : Logged}
+  pub call_ends : (new list left : List ℕ) {w : Result (Unit {0}) Refusal}
       → SearchPost bits rows (view rows old) (view rows new) (z - 1) (v - 1) one two list left w
       → LogPost t one two old new list left (logged_reply w)
   call_ends new list left {w} u =

@@ -3,7 +3,9 @@ use mathlib.Core.Path.{◌≡◌, sym, subst}
 use mathlib.Core.List.{List}
 use Prim.Native.Nat.{ℕ, ◌+◌, ◌-◌, ◌*◌}
 use native.Mathlib.Omega.{arith}
+use Rattle.std.specs.Prelude.{Result}
 use Rattle.mucalculus.specs.Form.{inside}
+use Rattle.layout.specs.declared.Refusal.{Refusal}
 use Rattle.layout.specs.Places.{BITS, VALID, FIRST_RELATION}
 use Rattle.layout.specs.View.{View}
 use Rattle.diagram.specs.Post.{Denotes}
@@ -21,7 +23,6 @@ use Rattle.formula_steps.proofs.After.{After}
 use Rattle.layers.specs.Scene.{Scene}
 use Rattle.path_calls.specs.Search.{book_in}
 use Rattle.path_calls.proofs.Opened.{shows, moved, relation-there, start-base, start-held, live_at, left_after}
-use Rattle.moments.specs.declared.Logged.{Logged}
 use Rattle.moments.specs.Find.{FindPre, FindPost}
 use Rattle.log_calls.specs.Search.{Named, SearchPre, SearchPost}
 
@@ -61,10 +62,12 @@ module _ {n N limit : ℕ} {W : View} {t v : ℕ} {one two : List ℕ} (p : Sear
   search-asks = asks-named p.named
 
   -- what freeing asks
-  pub search_frees : {Y : View} (old : List ℕ) {new : List ℕ} {r : Logged} → FindPost n limit X Y t v one two old new r → Sound Y
+  pub search_frees : {Y : View} (old : List ℕ) {new : List ℕ} {r : Result (Unit {0}) Refusal}
+      → FindPost n limit X Y t v one two old new r → Sound Y
   search_frees old u = (u (scene p.named)).steps.moved.sound
 
-  pub search-done : {Y Z : View} (old : List ℕ) {new : List ℕ} {r : Logged} → FindPost n limit X Y t v one two old new r → FreeManyPost Y Z
+  pub search-done : {Y Z : View} (old : List ℕ) {new : List ℕ} {r : Result (Unit {0}) Refusal}
+      → FindPost n limit X Y t v one two old new r → FreeManyPost Y Z
       → SearchPost n limit W Z t v one two old new r
   search-done {Y} {Z} old {new} {r} u g rt m =
       let w = u (scene m) in

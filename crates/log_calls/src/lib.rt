@@ -13,7 +13,7 @@ use counting::{Counts, begin};
 use layout::{Refusal, Table, header_word};
 use memory::forget;
 use modal::Limits;
-use moments::{Logged, find_logged};
+use moments::find_logged;
 use soundness::sound;
 
 // How long a log may be, in numbers: two for each entry.
@@ -52,7 +52,7 @@ fn search(
     valid: u32,
     one: &[u16],
     two: &[u16],
-) -> Logged
+) -> Result<(), Refusal>
     requires { SearchAsks limits words.old relation valid one.now two.now }
     ensures { SearchGives limits words.old words.new relation valid one.now two.now
         list.old list.new result }
@@ -68,25 +68,31 @@ fn search(
 // Writes the states of the run of relation t that fits both logs and is least at each place to the list: 1 where the logs' lengths do not
 // fit, 2 on unsound words, 3 where there is no such relation, 7 where it is empty, 8 where a step needs more rows than there are, 10 where
 // there is no run, 11 where the list is too short for it.
-pub fn logged(words: &mut [u32], list: &mut [u16], t: u32, one: &[u16], two: &[u16]) -> Logged
+pub fn logged(
+    words: &mut [u32],
+    list: &mut [u16],
+    t: u32,
+    one: &[u16],
+    two: &[u16],
+) -> Result<(), Refusal>
     ensures { LogPost t one.now two.now words.old words.new
         list.old list.new (logged_reply result) }
 {
     if !logs_fit(one.len(), two.len()) {
-        return Logged::Refused(Refusal::Sizes);
+        return Err(Refusal::Sizes);
     }
     if !sound(words) {
-        return Logged::Refused(Refusal::Unsound);
+        return Err(Refusal::Unsound);
     }
     if t >= Table::RELATIONS {
-        return Logged::Refused(Refusal::Range);
+        return Err(Refusal::Range);
     }
     let rows = header_word(words, Table::ROWS);
     let bits = header_word(words, Table::BITS);
     let valid = header_word(words, Table::VALID);
     let z = header_word(words, Table::FIRST_RELATION + (t as usize));
     if z == 0 {
-        return Logged::Refused(Refusal::Empty);
+        return Err(Refusal::Empty);
     }
     let limits = Limits {
         bits: bits,

@@ -13,10 +13,8 @@ use Rattle.diagram.proofs.Rows.{leads-is}
 use Rattle.layout.specs.Places.{SLOTS, STORED, MEMO_KEY, MEMO_VALUE}
 use Rattle.layout.specs.View.{View, upd, put_header, put_cell, put_slot}
 use Rattle.rows.specs.Used.{used, rows_of}
-use Rattle.table.specs.Code.{made_of}
-use Rattle.table.proofs.CodeLaws.{code_at}
-use Rattle.table.specs.declared.Made.{Made}
-use Rattle.table.specs.declared.Made.TheVariants as made
+use Rattle.std.specs.Prelude.{Result, Ok, Err}
+use Rattle.table.specs.declared.Full.{Full}
 use Rattle.memory.specs.Frame.{MemoFrame, set_slots}
 use Rattle.memory.proofs.Frame.{memo_refl, memo_trans, memo-set, memo-slots, memo-stored, memo_key, memo-value, rows_same, used-same}
 use Rattle.memory.specs.Memo.{MOST, kind_in, held, RightFor, Entry, Slots, Right, Remembers}
@@ -98,14 +96,18 @@ module _ {b : Bool} (kind r key value : ℕ) where
   value_none e q = rw (e, ne_eqb (key % 64) kind q)
 
 -- the steps of `remember_row`
-pub kept-none : (W : View) (a i kind r : ℕ) → MOST ≤ r → W ≡ keep_row W a i kind r
+pub kept-none : (W : View) (a i kind r : ℕ) → MOST ≤ r → W ≡ keep_row W a i kind (Ok r)
 unfolding keep_row
 kept-none W a i kind r h = rw (le-ltb r MOST h)
+
+pub kept-err : (W : View) {e : Full} (a i kind : ℕ) → W ≡ keep_row W a i kind (Err e)
+unfolding keep_row
+kept-err W a i kind = refl
 
 pub kept_by : (W : View) {W₁ W₂ : View} {key value k v : ℕ} (a i kind r : ℕ) → r < MOST → key ≡ W.cell i MEMO_KEY
     → value ≡ W.cell i MEMO_VALUE
     → k ≡ new_key (marked a) kind r key → v ≡ new_value (marked a) kind r key value → W₁ ≡ put_cell W i MEMO_KEY k
-    → W₂ ≡ put_cell W₁ i MEMO_VALUE v → W₂ ≡ keep_row W a i kind r
+    → W₂ ≡ put_cell W₁ i MEMO_VALUE v → W₂ ≡ keep_row W a i kind (Ok r)
 unfolding keep_row
 kept_by W a i kind r h ek ev nk nv e₁ e₂ = rw (lt-ltb r MOST h, e₂, e₁, nv, nk, ev, ek)
 
@@ -114,9 +116,9 @@ wrote-frame : {W X : View} {x y r : ℕ} → Wrote W X x y r → MemoFrame W X
 wrote-frame {W} (no_slot e) = subst (MemoFrame W) (sym e) (memo_refl W)
 wrote-frame {W} {x = x} {y = y} {r = r} (at_slot s l e) = subst (MemoFrame W) (sym e) (memo-set W (entry_put W s x y r).slot)
 
-pub remember-frame : {W X : View} (x y : ℕ) (o : Made) → RememberPost W X x y o → MemoFrame W X
-remember-frame x y (made.At r) p = memo_trans p.counted.frame (wrote-frame p.wrote)
-remember-frame {W} x y made.Full p = subst (MemoFrame W) (sym p) (memo_refl W)
+pub remember-frame : {W X : View} (x y : ℕ) (o : Result ℕ Full) → RememberPost W X x y o → MemoFrame W X
+remember-frame x y (Ok r) p = memo_trans p.counted.frame (wrote-frame p.wrote)
+remember-frame {W} x y (Err _) p = subst (MemoFrame W) (sym p) (memo_refl W)
 
 stored-frame : (W : View) (a i kind r : ℕ) → MemoFrame W (stored_row W a i kind r)
 stored-frame W a i kind r =
@@ -124,9 +126,10 @@ stored-frame W a i kind r =
     memo_trans (memo_key W i k)
     (memo-value (put_cell W i MEMO_KEY k) i (new_value (marked a) kind r (W.cell i MEMO_KEY) (W.cell i MEMO_VALUE)))
 
-pub keep_row-frame : (W : View) (a i kind r : ℕ) → MemoFrame W (keep_row W a i kind r)
+pub keep_row-frame : (W : View) (a i kind : ℕ) (o : Result ℕ Full) → MemoFrame W (keep_row W a i kind o)
 unfolding keep_row
-keep_row-frame W a i kind r = go (ltb r MOST)
+keep_row-frame W a i kind (Err _) = memo_refl W
+keep_row-frame W a i kind (Ok r) = go (ltb r MOST)
   where
     go : (b : Bool) → MemoFrame W (cond b (stored_row W a i kind r) W)
     go true = stored-frame W a i kind r
@@ -188,21 +191,21 @@ remembers_wrote {m} g e (no_slot q) = subst (Remembers m) (sym q) g
 remembers_wrote {m} {W} {x = x} {y = y} {r = r} g e (at_slot s l q) = subst (Remembers m) (sym q) (remembers_entry W s x y r g e)
 
 -- a right answer is remembered
-abbrev pub RightPair : ℕ → Rows → ℕ → ℕ → Made → Type 0
-RightPair m rows x y (made.At r) = Entry m rows x y r
-RightPair m rows x y made.Full = Unit {0}
+abbrev pub RightPair : ℕ → Rows → ℕ → ℕ → Result ℕ Full → Type 0
+RightPair m rows x y (Ok r) = Entry m rows x y r
+RightPair m rows x y (Err _) = Unit {0}
 
-pub remembers_pair : {m : ℕ} {W X : View} (x y : ℕ) (o : Made) → Remembers m W → RightPair m (rows_of W) x y o → RememberPost W X x y o
-    → Remembers m X
-remembers_pair {m} x y (made.At r) g e p =
+pub remembers_pair : {m : ℕ} {W X : View} (x y : ℕ) (o : Result ℕ Full) → Remembers m W → RightPair m (rows_of W) x y o
+    → RememberPost W X x y o → Remembers m X
+remembers_pair {m} x y (Ok r) g e p =
     remembers_wrote (remembers_fewer g p.counted) (subst (λ (t : Rows). Entry m t x y r) (sym (rows_same p.counted.frame)) e)
     p.wrote
-remembers_pair {m} x y made.Full g e p = subst (Remembers m) (sym p) g
+remembers_pair {m} x y (Err _) g e p = subst (Remembers m) (sym p) g
 
 -- an answer for arrow a
-abbrev pub RightRow : ℕ → Rows → ℕ → ℕ → Made → Type 0
-RightRow m rows a kind (made.At r) = RightFor m rows kind a r
-RightRow m rows a kind made.Full = Unit {0}
+abbrev pub RightRow : ℕ → Rows → ℕ → ℕ → Result ℕ Full → Type 0
+RightRow m rows a kind (Ok r) = RightFor m rows kind a r
+RightRow m rows a kind (Err _) = Unit {0}
 
 -- what a row remembers after one more answer is right
 module _ {m : ℕ} {rows : Rows} {i key value : ℕ} (a kind r : ℕ) (small : kind < 64) (e : Leads a i) (g : Right m rows i key value)
@@ -250,20 +253,20 @@ module _ {m : ℕ} {rows : Rows} {i key value : ℕ} (a kind r : ℕ) (small : k
   pub stored-right : Right m rows i (new_key (marked a) kind r key) (new_value (marked a) kind r key value)
   stored-right = record { each = λ n c v h. by-mark (marked a) refl (eqb (kind_in key) kind) refl c v n h }
 
-pub remembers_row : {m : ℕ} (W : View) (a i kind r : ℕ) → kind < 64 → Leads a i → Remembers m W → RightRow m (rows_of W) a kind (made_of r)
-    → Remembers m (keep_row W a i kind r)
+pub remembers_row : {m : ℕ} (W : View) (a i kind : ℕ) (o : Result ℕ Full) → kind < 64 → Leads a i → Remembers m W
+    → RightRow m (rows_of W) a kind o → Remembers m (keep_row W a i kind o)
 unfolding keep_row
-remembers_row {m} W a i kind r small e g d = go (ltb r MOST) refl
+remembers_row W a i kind (Err _) small e g d = g
+remembers_row {m} W a i kind (Ok r) small e g d = go (ltb r MOST) refl
   where
     stored : r < MOST → Remembers m (stored_row W a i kind r)
     stored l =
-        let d' : RightFor m (rows_of W) kind a r = subst (RightRow m (rows_of W) a kind) (code_at r (λ z. absurd (omega (arith, l, z)))) d in
         let f = stored-frame W a i kind r in
         record {
           sizes = record { room = g.sizes.room; few = g.sizes.few };
           pairs = g.pairs;
           singles = λ j u. by_cases (ℕ_discrete j i)
-              (λ q. rw (q, eq-eqb i i refl) (stored-right a kind r small e (g.singles i (subst (λ (x : ℕ). used W x ≡ true) q u)) d'))
+              (λ q. rw (q, eq-eqb i i refl) (stored-right a kind r small e (g.singles i (subst (λ (x : ℕ). used W x ≡ true) q u)) d))
               (λ q. single-at f g j u (rw (ne_eqb j i q)) (rw (ne_eqb j i q)));
         }
 

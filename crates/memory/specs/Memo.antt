@@ -1,5 +1,5 @@
 -- What is remembered, and that an entry is absent or right. Assumes nothing.
-use Rattle.std.specs.Prelude.{◌≡◌, Bool, true, false, ◌≢◌, ℕ, zero, suc, ◌+◌, ◌*◌, ◌/◌, ◌%◌, ◌≤◌, ◌<◌}
+use Rattle.std.specs.Prelude.{◌≡◌, Bool, true, false, ◌≢◌, ℕ, zero, suc, ◌+◌, ◌*◌, ◌/◌, ◌%◌, ◌≤◌, ◌<◌, Option, Some, None}
 use Rattle.diagram.specs.Level.{Fn}
 use Rattle.diagram.specs.Rows.{Rows, marked, row, carry, Arrow, den}
 use Rattle.diagram.specs.Post.{Denotes}
@@ -8,8 +8,6 @@ use Rattle.diagram.specs.Odd.{odd_f, Covered}
 use Rattle.layout.specs.Places.{SLOTS, STORED, MEMO_KEY, MEMO_VALUE}
 use Rattle.layout.specs.View.{View}
 use Rattle.rows.specs.Used.{used, rows_of}
-use Rattle.table.specs.declared.Found.{Found}
-use Rattle.table.specs.declared.Found.TheVariants as find
 
 -- the kinds of unary results: 1 SHIFT, 2 EXISTS at every odd level, 3 + x EXISTS at level x
 abbrev pub ODD : ℕ
@@ -73,11 +71,11 @@ pub record Held (W : View) (x y v : ℕ) : Type 0 where
   pub value : v ≡ W.slot (3 * at + 2)
 
 -- what recalling says of a pair, and of row i, an arrow to it and a kind
-abbrev pub RecallPost : View → ℕ → ℕ → Found → Type 0
-RecallPost W x y (find.At v) = Held W x y v
-RecallPost W x y find.Nothing = Unit {0}
+abbrev pub RecallPost : View → ℕ → ℕ → Option ℕ → Type 0
+RecallPost W x y (Some v) = Held W x y v
+RecallPost W x y None = Unit {0}
 
-abbrev pub RowPost : View → ℕ → ℕ → ℕ → Found → Type 0
-RowPost W a i kind (find.At v) =
+abbrev pub RowPost : View → ℕ → ℕ → ℕ → Option ℕ → Type 0
+RowPost W a i kind (Some v) =
     (kind_in (W.cell i MEMO_KEY) ≡ kind) × (held (marked a) (W.cell i MEMO_KEY) (W.cell i MEMO_VALUE) ≡ suc v)
-RowPost W a i kind find.Nothing = Unit {0}
+RowPost W a i kind None = Unit {0}

@@ -1,10 +1,9 @@
 -- A result is stored: what is remembered stays right. Assumes nothing.
-use Rattle.std.specs.Prelude.{◌≡◌, Bool, true, false, cond, ◌≢◌, ℕ, ◌+◌, ◌*◌, ◌≤◌, ◌<◌, eqb, ltb}
+use Rattle.std.specs.Prelude.{◌≡◌, Bool, true, false, cond, ◌≢◌, ℕ, ◌+◌, ◌*◌, ◌≤◌, ◌<◌, eqb, ltb, Result, Ok, Err}
 use Rattle.diagram.specs.Rows.{marked}
 use Rattle.layout.specs.Places.{SLOTS, MEMO_KEY, MEMO_VALUE}
 use Rattle.layout.specs.View.{View, put_cell, put_slot}
-use Rattle.table.specs.declared.Made.{Made}
-use Rattle.table.specs.declared.Made.TheVariants as made
+use Rattle.table.specs.declared.Full.{Full}
 use Rattle.memory.specs.Frame.{MemoFrame, set_slots}
 use Rattle.memory.specs.Memo.{MOST, kind_in, Slots}
 
@@ -38,9 +37,9 @@ pub record Stored (W X : View) (x y r : ℕ) : Type 0 where
   pub counted : Fewer W mid
   pub wrote : Wrote mid X x y r
 
-abbrev pub RememberPost : View → View → ℕ → ℕ → Made → Type 0
-RememberPost W X x y (made.At r) = Stored W X x y r
-RememberPost W X x y made.Full = X ≡ W
+abbrev pub RememberPost : View → View → ℕ → ℕ → Result ℕ Full → Type 0
+RememberPost W X x y (Ok r) = Stored W X x y r
+RememberPost W X x y (Err _) = X ≡ W
 
 -- the key and the value after a result r of a kind is stored for the arrow with or without a NOT: one of that kind for the other arrow
 -- stays
@@ -58,5 +57,6 @@ stored_row W a i kind r =
     put_cell (put_cell W i MEMO_KEY (new_key (marked a) kind r (W.cell i MEMO_KEY))) i MEMO_VALUE
     (new_value (marked a) kind r (W.cell i MEMO_KEY) (W.cell i MEMO_VALUE))
 
-unfoldable pub keep_row : View → ℕ → ℕ → ℕ → ℕ → View
-keep_row W a i kind r = cond (ltb r MOST) (stored_row W a i kind r) W
+unfoldable pub keep_row : View → ℕ → ℕ → ℕ → Result ℕ Full → View
+keep_row W a i kind (Ok r) = cond (ltb r MOST) (stored_row W a i kind r) W
+keep_row W a i kind (Err _) = W

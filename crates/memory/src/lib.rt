@@ -7,13 +7,12 @@ ghost use Rattle.layout.specs.Places.{SLOTS, words_for};
 ghost use Rattle.layout.specs.View.{view, header_of, list_of};
 ghost use Rattle.rows.specs.Lookup.{Room};
 ghost use Rattle.rows.specs.Sound.{Good};
-ghost use Rattle.table.specs.Code.{made_of};
 ghost use Rattle.memory.specs.Memo.{KINDS, MOST, held, Slots, RecallPost, RowPost};
 ghost use Rattle.memory.specs.Store.{Emptied, Fewer, Wrote, RememberPost, new_key, new_value, keep_row};
 ghost use Rattle.memory.specs.Forget.{FirstSlots, RowsForgot, Forgot};
 
 use layout::{Hash, Table, get, header_word, is_marked, listed, put, put_header, put_slot, slot};
-use table::{Code, Found};
+use table::Full;
 
 // What is fixed of remembered results.
 #[derive(Clone, Copy)]
@@ -55,22 +54,22 @@ fn slot_of(slots: u32, x: u32, y: u32) -> u32
 }
 
 // What is remembered of AND of two arrows.
-pub fn recall(words: &[u32], rows: u32, lo: u32, hi: u32) -> Found
+pub fn recall(words: &[u32], rows: u32, lo: u32, hi: u32) -> Option<u32>
     requires { Room (view rows words.now) × Slots (view rows words.now) }
     ensures { RecallPost (view rows words.now) lo hi result }
 {
     let slots = header_word(words, Table::SLOTS);
     if slots == 0 {
-        return Found::Nothing;
+        return None;
     }
     let at = Memory::ENTRY * slot_of(slots, lo, hi);
     if slot(words, rows, at) != lo {
-        return Found::Nothing;
+        return None;
     }
     if slot(words, rows, at + 1) != hi {
-        return Found::Nothing;
+        return None;
     }
-    Found::At(slot(words, rows, at + 2))
+    Some(slot(words, rows, at + 2))
 }
 
 // Empties the entries from one up to another.
@@ -78,10 +77,8 @@ fn empty_slots(words: &mut [u32], rows: u32, from: u32, to: u32)
     requires { (from ≤ to) × (3 * to ≤ 2 * rows) × Room (view rows words.old) }
     ensures { Emptied (view rows words.old) (view rows words.new) from to }
 {
-    let mut s = from;
-    while s < to {
+    for s in from..to {
         put_slot(words, rows, Memory::ENTRY * s, 0);
-        s += 1;
     }
 }
 
@@ -128,13 +125,13 @@ fn write_entry(words: &mut [u32], rows: u32, x: u32, y: u32, r: u32)
 }
 
 // Remembers what AND of two arrows gives, if it was made.
-pub fn remember(words: &mut [u32], rows: u32, lo: u32, hi: u32, r: u32)
+pub fn remember(words: &mut [u32], rows: u32, lo: u32, hi: u32, made: Result<u32, Full>)
     requires { Room (view rows words.old) × Slots (view rows words.old) }
-    ensures { RememberPost (view rows words.old) (view rows words.new) lo hi (made_of r) }
+    ensures { RememberPost (view rows words.old) (view rows words.new) lo hi made }
 {
-    if r == Code::FULL {
+    let Ok(r) = made else {
         return;
-    }
+    };
     count_stored(words, rows);
     write_entry(words, rows, lo, hi, r);
 }
@@ -150,19 +147,19 @@ fn held_for(a: u32, key: u32, value: u32) -> u32
 }
 
 // What row i remembers, if it is a result of this kind for arrow a.
-pub fn recall_row(words: &[u32], rows: u32, a: u32, i: u32, kind: u32) -> Found
+pub fn recall_row(words: &[u32], rows: u32, a: u32, i: u32, kind: u32) -> Option<u32>
     requires { (i < rows) × (words_for rows ≤ length words.now) × (kind < KINDS) }
     ensures { RowPost (view rows words.now) a i kind result }
 {
     let key = get(words, rows, i, Table::MEMO_KEY);
     if key % Memory::KIND_ROOM != kind {
-        return Found::Nothing;
+        return None;
     }
     let word = held_for(a, key, get(words, rows, i, Table::MEMO_VALUE));
     if word == 0 {
-        return Found::Nothing;
+        return None;
     }
-    Found::At(word - 1)
+    Some(word - 1)
 }
 
 // The key after a result of a kind for arrow a is stored: a result of that kind for the other arrow stays.
@@ -193,11 +190,21 @@ fn value_after(a: u32, kind: u32, r: u32, key: u32, value: u32) -> u32
     0
 }
 
-// Row i remembers a result of this kind for arrow a, if it was made: FULL is above every arrow.
-pub fn remember_row(words: &mut [u32], rows: u32, a: u32, i: u32, kind: u32, r: u32)
+// Row i remembers a result of this kind for arrow a, if it was made.
+pub fn remember_row(
+    words: &mut [u32],
+    rows: u32,
+    a: u32,
+    i: u32,
+    kind: u32,
+    made: Result<u32, Full>,
+)
     requires { (i < rows) × (words_for rows ≤ length words.old) × (kind < KINDS) }
-    ensures { view rows words.new ≡ keep_row (view rows words.old) a i kind r }
+    ensures { view rows words.new ≡ keep_row (view rows words.old) a i kind made }
 {
+    let Ok(r) = made else {
+        return;
+    };
     if r >= Memory::MOST {
         return;
     }
@@ -222,6 +229,7 @@ fn first_slots(rows: u32, used: u32) -> u32
         return 0;
     }
     let mut slots = 1;
+    // Not a for: the number doubles.
     while slots < Memory::FEWEST + 2 * used {
         if Memory::ENTRY * (2 * slots) > 2 * rows {
             return slots;
@@ -236,11 +244,9 @@ fn forget_rows(words: &mut [u32], rows: u32, used: u32)
     requires { (used ≤ rows) × (words_for rows ≤ length words.old) × ((k : ℕ) → k < used → list_of rows words.old k < rows) }
     ensures { RowsForgot (view rows words.old) (view rows words.new) used }
 {
-    let mut k = 0;
-    while k < used {
+    for k in 0..used {
         let i = listed(words, rows, k);
         put(words, rows, i, Table::MEMO_KEY, Memory::NOTHING);
-        k += 1;
     }
 }
 

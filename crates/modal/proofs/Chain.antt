@@ -14,6 +14,7 @@ use mathlib.Core.List.Memᴰ.{append_right}
 use Prim.Native.Nat.{ℕ, ◌*◌, ◌≤◌, ◌<◌}
 use native.Mathlib.Omega.{arith}
 use lib.Dec.{leb}
+use Rattle.std.specs.Prelude.{Result, Ok, Err}
 use Rattle.accounts.specs.declared.Count.{Count}
 use Rattle.accounts.specs.Count.{needing}
 use Rattle.layout.specs.Places.{MAX_BITS}
@@ -22,7 +23,7 @@ use Rattle.diagram.specs.Level.{Fn}
 use Rattle.diagram.specs.Rows.{Rows, Arrow, den, WellFormed}
 use Rattle.diagram.specs.Count.{Within}
 use Rattle.diagram.specs.Need.{step_need}
-use Rattle.diagram.specs.Post.{Result, at, full, Denotes}
+use Rattle.diagram.specs.Post.{Result as Answer, at, full, Denotes}
 use Rattle.diagram.specs.Keep.{Keeps}
 use Rattle.diagram.proofs.Keep.{keeps_trans, keeps_within}
 use Rattle.diagram.specs.Step.{StepPost, StepResult}
@@ -34,9 +35,9 @@ use Rattle.operations.proofs.Work.{op_refl, op_trans, ready-wf, ready-frame}
 use Rattle.steps.specs.declared.Step.{Step}
 use Rattle.steps.specs.Steps.{step_f, operands_of, live_at, Fits, StepPre, Stepped}
 use Rattle.steps.proofs.Steps.{operand-arrow, live-arrows}
-use Rattle.counting.specs.Taken.{made_in, count_in, Counted}
+use Rattle.table.specs.declared.Full.{Full}
+use Rattle.counting.specs.Taken.{taken, ran_out, made_in, count_in, Counted}
 use Rattle.counting.specs.declared.Taken.{Taken}
-use Rattle.counting.specs.declared.Taken.TheVariants as taken
 use Rattle.book.specs.Held.{Held}
 use Rattle.book.proofs.Held.{held-arrow, held-need}
 use Rattle.book.specs.Pairs.{PairMatches, PairEvals}
@@ -87,7 +88,7 @@ pub need_alike : (m : ℕ) (rows : Rows) {xs ys : List ℕ} (F : Fn) → ((a : �
 need_alike m rows F u s = held-need (held_alike (alike_sym s) (held-own u)) F
 
 -- a step's promise over some roots is one over others with the same members
-pub step-roots : {m N limit : ℕ} {before after : Rows} {xs ys : List ℕ} {F : Fn} (answer : Result) → ((a : ℕ) → Mem a ys → Arrow before a)
+pub step-roots : {m N limit : ℕ} {before after : Rows} {xs ys : List ℕ} {F : Fn} (answer : Answer) → ((a : ℕ) → Mem a ys → Arrow before a)
     → Alike xs ys
     → StepPost m N limit before after xs answer F → StepPost m N limit before after ys answer F
 step-roots {m} {N} {limit} {before} {after} {xs} {ys} {F} answer u s p =
@@ -96,16 +97,17 @@ step-roots {m} {N} {limit} {before} {after} {xs} {ys} {F} answer u s p =
     same : step_need m (map (den m before) xs) F ≡ step_need m (map (den m before) ys) F
     same = need_alike m before F u s
 
-    go : (answer : Result) → StepResult m limit before after xs answer F → StepResult m limit before after ys answer F
+    go : (answer : Answer) → StepResult m limit before after xs answer F → StepResult m limit before after ys answer F
     go (at a) r = (r.0, subst (λ (k : ℕ). k ≤ limit) same r.1)
     go full r = subst (λ (k : ℕ). limit < k) same r
 
 -- and so is its count
-pub counted-roots : (m : ℕ) (before : Rows) {xs ys : List ℕ} (F : Fn) (q : Count) (o : Taken) → ((a : ℕ) → Mem a ys → Arrow before a)
+pub counted-roots : (m : ℕ) (before : Rows) {xs ys : List ℕ} (F : Fn) (q : Count) (o : Result Taken Full) → ((a : ℕ) → Mem a ys
+    → Arrow before a)
     → Alike xs ys
     → Counted m before xs F q o → Counted m before ys F q o
-counted-roots m before F q (taken.At a c) u s e = e ∙ ap (needing q) (need_alike m before F u s)
-counted-roots m before F q taken.Full u s e = tt
+counted-roots m before F q (Ok t) u s e = e ∙ ap (needing q) (need_alike m before F u s)
+counted-roots m before F q (Err x) u s e = tt
 
 -- ---- the table between steps
 
@@ -131,7 +133,7 @@ module _ {n N limit : ℕ} {W : View} (b : Base n N limit W) where
   step-pre u f = record { sound = b.sound; ready = b.ready; arrows = u; fits = f }
 
 -- a step for F after the count q, whose roots have its operands among them
-pub record Took (n N limit : ℕ) (W X : View) (roots : List ℕ) (q : Count) (o : Taken) (F : Fn) : Type 0 where
+pub record Took (n N limit : ℕ) (W X : View) (roots : List ℕ) (q : Count) (o : Result Taken Full) (F : Fn) : Type 0 where
   pub moved : Moved n W X
   pub post : StepPost (2 * n) N limit (rows_of W) (rows_of X) roots (result (made_in o)) F
   pub count : Counted (2 * n) (rows_of W) roots F q o
@@ -147,7 +149,7 @@ operands-first xs ys zs = record {
       (append_cases zs h);
 }
 
-pub took : {n N limit : ℕ} {W X : View} {lent : List ℕ} {s : Step} {q : Count} {o : Taken} → Base n N limit W
+pub took : {n N limit : ℕ} {W X : View} {lent : List ℕ} {s : Step} {q : Count} {o : Result Taken Full} → Base n N limit W
     → StepPre (2 * n) N limit W lent s
     → Stepped (2 * n) N limit W X lent s (made_in o) → Counted (2 * n) (rows_of W) (live_at W lent s) (step_f (2 * n) (rows_of W) s) q o
     → Took n N limit W X (operands_of s ++ live W lent) q o (step_f (2 * n) (rows_of W) s)
@@ -170,7 +172,7 @@ uncounted true r = absurd r.result
 uncounted false r = record { wf = r.wf; kept = r.kept; result = tt }
 
 -- one step is a chain: its roots `ys`, with the operands among them, hold `fs`
-pub ran_step : {n N limit : ℕ} {W X : View} {roots ys : List ℕ} {fs : List Fn} {q : Count} {o : Taken} {F : Fn}
+pub ran_step : {n N limit : ℕ} {W X : View} {roots ys : List ℕ} {fs : List Fn} {q : Count} {o : Result Taken Full} {F : Fn}
     → Held (2 * n) (rows_of W) ys fs → Within roots ys
     → Took n N limit W X ys q o F → Ran n N W X roots (leb (step_need (2 * n) fs F) limit) F (needing q (step_need (2 * n) fs F)) o
 ran_step {n} {N} {limit} {W} {X} {roots} {ys} {fs} {q} {o} {F} h w p = record { moved = p.moved; evals = go o p.post p.count }
@@ -178,22 +180,24 @@ ran_step {n} {N} {limit} {W} {X} {roots} {ys} {fs} {q} {o} {F} h w p = record { 
     own : Held (2 * n) (rows_of W) roots (map (den (2 * n) (rows_of W)) roots)
     own = held-own (λ a i. held-arrow h a (w a i))
 
-    go : (o : Taken) → StepPost (2 * n) N limit (rows_of W) (rows_of X) ys (result (made_in o)) F → Counted (2 * n) (rows_of W) ys F q o
+    go : (o : Result Taken Full) → StepPost (2 * n) N limit (rows_of W) (rows_of X) ys (result (made_in o)) F
+        → Counted (2 * n) (rows_of W) ys F q o
         → PairEvals n N (rows_of W) (rows_of X) roots (leb (step_need (2 * n) fs F) limit) F (needing q (step_need (2 * n) fs F))
         (result (made_in o)) (count_in o)
-    go (taken.At a c) s e =
+    go (Ok t) s e =
         subst (λ (x : Count). PairEvals n N (rows_of W) (rows_of X) roots (leb (step_need (2 * n) fs F) limit) F
-        (needing q (step_need (2 * n) fs F)) (at a) x) (sym e)
-        (pair_step n N own F q q refl (keeps_within w) h refl (at a) s (step_need (2 * n) (map (den (2 * n) (rows_of W)) ys) F) refl)
-    go taken.Full s e = uncounted (leb (step_need (2 * n) fs F) limit) (pair_step n N own F q q refl (keeps_within w) h refl full s 0 tt)
+        (needing q (step_need (2 * n) fs F)) (at t.arrow) x) (sym e)
+        (pair_step n N own F q q refl (keeps_within w) h refl (at t.arrow) s (step_need (2 * n) (map (den (2 * n) (rows_of W)) ys) F) refl)
+    go (Err x) s e = uncounted (leb (step_need (2 * n) fs F) limit) (pair_step n N own F q q refl (keeps_within w) h refl full s 0 tt)
 
 -- the chain stopped, whatever was to follow
-pub ran_stop : {n N : ℕ} {W X : View} {roots : List ℕ} {b : Bool} {F : Fn} {d : Count} {o : Taken} (c : Bool) (G : Fn) (e : Count)
-    → o ≡ taken.Full → Ran n N W X roots b F d o
-    → Ran n N W X roots (b && c) G e taken.Full
+pub ran_stop : {n N : ℕ} {W X : View} {roots : List ℕ} {b : Bool} {F : Fn} {d : Count} {o : Result Taken Full} (c : Bool) (G : Fn)
+    (e : Count)
+    → o ≡ ran_out → Ran n N W X roots b F d o
+    → Ran n N W X roots (b && c) G e ran_out
 ran_stop {n} {N} {W} {X} {roots} {b} {F} {d} c G e i r =
-    let p : PairEvals n N (rows_of W) (rows_of X) roots b F d full (count_in taken.Full) =
-    subst (λ (x : Taken). PairEvals n N (rows_of W) (rows_of X) roots b F d (result (made_in x)) (count_in x)) i r.evals in
+    let p : PairEvals n N (rows_of W) (rows_of X) roots b F d full (count_in ran_out) =
+    subst (λ (x : Result Taken Full). PairEvals n N (rows_of W) (rows_of X) roots b F d (result (made_in x)) (count_in x)) i r.evals in
     record { moved = r.moved; evals = pair-stop n N b c G e p }
 
 -- a value denotes its function, and its count is the book's
@@ -203,10 +207,11 @@ pair-value n rows true m = m
 pair-value n rows false m = absurd m
 
 -- a chain after a chain that answered `a`
-module _ {n N : ℕ} {W X : View} {roots : List ℕ} {b : Bool} {F : Fn} {d : Count} {o : Taken} {a : ℕ} {p : Count} (e : o ≡ taken.At a p)
+module _ {n N : ℕ} {W X : View} {roots : List ℕ} {b : Bool} {F : Fn} {d : Count} {o : Result Taken Full} {a : ℕ} {p : Count}
+    (e : o ≡ taken a p)
     (r : Ran n N W X roots b F d o) where
   first : PairEvals n N (rows_of W) (rows_of X) roots b F d (at a) p
-  first = subst (λ (x : Taken). PairEvals n N (rows_of W) (rows_of X) roots b F d (result (made_in x)) (count_in x)) e r.evals
+  first = subst (λ (x : Result Taken Full). PairEvals n N (rows_of W) (rows_of X) roots b F d (result (made_in x)) (count_in x)) e r.evals
 
   pub ran_kept : Keeps (rows_of W) (rows_of X) roots
   ran_kept = r.evals.kept
@@ -215,7 +220,7 @@ module _ {n N : ℕ} {W X : View} {roots : List ℕ} {b : Bool} {F : Fn} {d : Co
   ran_value = (pair-value n (rows_of X) b first.result).0
 
   -- what follows counts on from p: D says how
-  pub ran_then : {Y : View} {c : Bool} {G : Fn} {t : Taken} (D : Count → Count) → Ran n N X Y roots c G (D p) t
+  pub ran_then : {Y : View} {c : Bool} {G : Fn} {t : Result Taken Full} (D : Count → Count) → Ran n N X Y roots c G (D p) t
       → Ran n N W Y roots (b && c) G (D d) t
   ran_then {Y} {c} {G} {t} D q = record {
     moved = moved_trans r.moved q.moved;

@@ -1,4 +1,5 @@
 -- Each call and each return of quantify, diamond and box: what it asks and what it gives. Assumes nothing.
+use Rattle.std.specs.Prelude.{Result}
 use mathlib.Core.Path.{◌≡◌, refl, sym, ap, ap₂, ◌∙◌, subst}
 use mathlib.Core.Bool.{Bool, true, false, not, ◌&&◌, cond}
 use mathlib.Core.List.Memᴰ.{cast as mem_cast}
@@ -13,7 +14,6 @@ use Rattle.accounts.specs.Count.{needing}
 use Rattle.layout.specs.View.{View}
 use Rattle.diagram.specs.Level.{Fn}
 use Rattle.diagram.specs.Rows.{Rows, Arrow, den}
-use Rattle.diagram.specs.Even.{even}
 use Rattle.diagram.specs.Need.{step_need}
 use Rattle.diagram.specs.Post.{at, full, Denotes}
 use Rattle.diagram.specs.Keep.{Keeps}
@@ -21,14 +21,13 @@ use Rattle.diagram.proofs.Keep.{keeps_refl, keeps_trans, keeps_arrow, keeps_deno
 use Rattle.diagram.specs.Steps.{not_f, and_f, shift_f, exists_f}
 use Rattle.rows.specs.Used.{rows_of}
 use Rattle.rows.specs.Filled.{filled}
-use Rattle.table.specs.Make.{result}
 use Rattle.collect.specs.Lent.{live}
 use Rattle.steps.specs.declared.Step.TheVariants.{Not, And, Shift, Exists}
 use Rattle.steps.specs.Steps.{StepPre}
 use Rattle.steps.proofs.Steps.{live-arrows, live_same}
-use Rattle.counting.specs.Taken.{count_in}
+use Rattle.table.specs.declared.Full.{Full}
+use Rattle.counting.specs.Taken.{taken, ran_out, count_in}
 use Rattle.counting.specs.declared.Taken.{Taken}
-use Rattle.counting.specs.declared.Taken.TheVariants as taken
 use Rattle.book.specs.Ticks.{exists_needs, diamond_needs, counted, full as full_verdict}
 use Rattle.book.specs.Run.{needing_all, value, full as full_run, exists_steps, fit}
 use Rattle.book.specs.Diamond.{exists_next, diamond_f}
@@ -87,7 +86,7 @@ module _ {n N limit : ℕ} {W : View} {lent : List ℕ} {a : ℕ} (p : QuantifyP
     pub quantify-asks : {x : ℕ} → x < 2 * n → StepPre (2 * n) N limit X lent (Exists x c)
     quantify-asks l = step-pre quantify-base (λ b h. keeps_arrow at_own.kept b (append_right (filled W) h)) (at_own.denotes.arrow, l)
 
-    module _ {Y : View} {o : Taken} (less : 0 < j)
+    module _ {Y : View} {o : Result Taken Full} (less : 0 < j)
         (s : Took n N limit X Y (c ∷ live X lent) r o (exists_f (2 * (j - 1) + 1) (den (2 * n) (rows_of X) c))) where
       turn : (fs : List Fn) → Held (2 * n) (rows_of W) (live W lent) fs
           → Quantifies n N limit (rows_of W) (rows_of X) (live W lent) fs (den (2 * n) (rows_of W) a) q (suc (j - 1)) c r
@@ -97,16 +96,18 @@ module _ {n N limit : ℕ} {W : View} {lent : List ℕ} {a : ℕ} (p : QuantifyP
           (i.steps fs h)
 
       -- the step, from the loop's roots
-      taken_at : {t : Taken} → o ≡ t → Took n N limit X Y (c ∷ live W lent) r t (exists_f (suc (2 * (j - 1))) (den (2 * n) (rows_of X) c))
+      taken_at : {t : Result Taken Full} → o ≡ t
+          → Took n N limit X Y (c ∷ live W lent) r t (exists_f (suc (2 * (j - 1))) (den (2 * n) (rows_of X) c))
       taken_at {t} e =
           let odd : 2 * (j - 1) + 1 ≡ suc (2 * (j - 1)) = omega arith in
-          let s1 = subst (λ (t : Taken). Took n N limit X Y (c ∷ live X lent) r t (exists_f (2 * (j - 1) + 1) (den (2 * n) (rows_of X) c))) e
+          let s1 = subst
+          (λ (t : Result Taken Full). Took n N limit X Y (c ∷ live X lent) r t (exists_f (2 * (j - 1) + 1) (den (2 * n) (rows_of X) c))) e
           s in
           let s2 = subst (λ (x : ℕ). Took n N limit X Y (c ∷ live X lent) r t (exists_f x (den (2 * n) (rows_of X) c))) odd s1 in
           subst (λ (xs : List ℕ). Took n N limit X Y (c ∷ xs) r t (exists_f (suc (2 * (j - 1))) (den (2 * n) (rows_of X) c)))
           (live_same i.moved.frame lent) s2
 
-      pub quantify-turns : {d : ℕ} {m : Count} → o ≡ taken.At d m → Quantified n N limit W Y lent a q (j - 1) d m
+      pub quantify-turns : {d : ℕ} {m : Count} → o ≡ taken d m → Quantified n N limit W Y lent a q (j - 1) d m
       quantify-turns {d} {m} e =
           let t = taken_at e in
           record {
@@ -118,7 +119,7 @@ module _ {n N limit : ℕ} {W : View} {lent : List ℕ} {a : ℕ} (p : QuantifyP
                 (exists_f (suc (2 * (j - 1))) (den (2 * n) (rows_of X) c))) refl);
           }
 
-      pub quantify-full : o ≡ taken.Full → QuantifyPost n N limit W Y lent a q taken.Full
+      pub quantify-full : o ≡ ran_out → QuantifyPost n N limit W Y lent a q ran_out
       quantify-full e fs h =
           let C : Fn = den (2 * n) (rows_of W) a in
           let t = turn fs h in
@@ -132,11 +133,11 @@ module _ {n N limit : ℕ} {W : View} {lent : List ℕ} {a : ℕ} (p : QuantifyP
               kept = keeps_on t.kept v.kept;
               result =
                   subst (λ (b : Bool). PairMatches n (rows_of Y) b (exists_next n C) (needing_all q (exists_needs n fs n C)) full
-                  (count_in taken.Full)) (sym out) tt;
+                  (count_in ran_out)) (sym out) tt;
             };
           }
 
-    pub quantify-ends : j ≤ 0 → QuantifyPost n N limit W X lent a q (taken.At c r)
+    pub quantify-ends : j ≤ 0 → QuantifyPost n N limit W X lent a q (taken c r)
     quantify-ends z fs h =
         let C : Fn = den (2 * n) (rows_of W) a in
         let e : j ≡ 0 = omega arith in
@@ -169,7 +170,7 @@ held_moved {n} {W} {X} lent {fs} m k h =
     subst (λ (xs : List ℕ). Held (2 * n) (rows_of X) xs fs) (sym (live_same m.frame lent)) (held_keeps h k)
 
 -- a chain from a later table, whose roots are the same
-pub ran_from : {n N : ℕ} {W X Y : View} (lent : List ℕ) {b : Bool} {F : Fn} {d : Count} {o : Taken} → Moved n W X
+pub ran_from : {n N : ℕ} {W X Y : View} (lent : List ℕ) {b : Bool} {F : Fn} {d : Count} {o : Result Taken Full} → Moved n W X
     → Ran n N X Y (live X lent) b F d o → Ran n N X Y (live W lent) b F d o
 ran_from {n} {N} {W} {X} {Y} lent {b} {F} {d} {o} m r = subst (λ (xs : List ℕ). Ran n N X Y xs b F d o) (live_same m.frame lent) r
 
@@ -181,7 +182,7 @@ and-true : (b : Bool) → (b && true) ≡ b
 and-true true = refl
 and-true false = refl
 
-appended : {n N : ℕ} (limit : ℕ) {W X : View} {roots : List ℕ} {G : Fn} (q : Count) {o : Taken} (xs ys : List ℕ)
+appended : {n N : ℕ} (limit : ℕ) {W X : View} {roots : List ℕ} {G : Fn} (q : Count) {o : Result Taken Full} (xs ys : List ℕ)
     → Ran n N W X roots (fit limit xs && fit limit ys) G (needing_all (needing_all q xs) ys) o
     → Ran n N W X roots (fit limit (xs ++ ys)) G (needing_all q (xs ++ ys)) o
 appended {n} {N} limit {W} {X} {roots} {G} q {o} xs ys r =
@@ -189,16 +190,18 @@ appended {n} {N} limit {W} {X} {roots} {G} q {o} xs ys r =
     (subst (λ (c : Count). Ran n N W X roots (fit limit xs && fit limit ys) G c o) (sym (count-append q xs ys)) r)
 
 -- a chain of steps after another
-chain_then : {n N : ℕ} (limit : ℕ) {W X Y : View} {roots : List ℕ} {F G : Fn} (q : Count) {o u : Taken} (xs ys : List ℕ) {a : ℕ} {p : Count}
-    → o ≡ taken.At a p
+chain_then : {n N : ℕ} (limit : ℕ) {W X Y : View} {roots : List ℕ} {F G : Fn} (q : Count) {o u : Result Taken Full} (xs ys : List ℕ)
+    {a : ℕ} {p : Count}
+    → o ≡ taken a p
     → Ran n N W X roots (fit limit xs) F (needing_all q xs) o → Ran n N X Y roots (fit limit ys) G (needing_all p ys) u
     → Ran n N W Y roots (fit limit (xs ++ ys)) G (needing_all q (xs ++ ys)) u
 chain_then limit q xs ys e r s = appended limit q xs ys (ran_then e r (λ c. needing_all c ys) s)
 
 -- the first chain stopped
-chain-stop : {n N : ℕ} (limit : ℕ) {W X : View} {roots : List ℕ} {F : Fn} (G : Fn) (q : Count) {o : Taken} (xs ys : List ℕ) → o ≡ taken.Full
+chain-stop : {n N : ℕ} (limit : ℕ) {W X : View} {roots : List ℕ} {F : Fn} (G : Fn) (q : Count) {o : Result Taken Full} (xs ys : List ℕ)
+    → o ≡ ran_out
     → Ran n N W X roots (fit limit xs) F (needing_all q xs) o
-    → Ran n N W X roots (fit limit (xs ++ ys)) G (needing_all q (xs ++ ys)) taken.Full
+    → Ran n N W X roots (fit limit (xs ++ ys)) G (needing_all q (xs ++ ys)) ran_out
 chain-stop limit G q xs ys e r = appended limit q xs ys (ran_stop (fit limit ys) G (needing_all (needing_all q xs) ys) e r)
 
 module _ {n N limit : ℕ} {W : View} {lent : List ℕ} {t a : ℕ} (q : Count) (p : ModalPre n N limit W lent t a) where
@@ -219,16 +222,16 @@ module _ {n N limit : ℕ} {W : View} {lent : List ℕ} {t a : ℕ} (q : Count) 
   shift-asks = step-pre p.base p.arrows (p.operand, p.even)
 
   -- a first step from the operand
-  first_step : {X : View} {o : Taken} {G : Fn} → Took n N limit W X (a ∷ live W lent) q o G → (fs : List Fn)
+  first_step : {X : View} {o : Result Taken Full} {G : Fn} → Took n N limit W X (a ∷ live W lent) q o G → (fs : List Fn)
       → Held (2 * n) (rows_of W) (live W lent) fs
       → Ran n N W X (live W lent) (leb (step_need (2 * n) (F ∷ fs) G) limit) G (needing q (step_need (2 * n) (F ∷ fs) G)) o
   first_step s fs h = ran_step (held-push h (denotes-own p.operand)) (λ b i. there i) s
 
-  module _ {X : View} {o : Taken} (s : Took n N limit W X (a ∷ live W lent) q o (shift_f F)) where
-    pub shift-full : o ≡ taken.Full → DiamondPost n N limit W X lent t a q taken.Full
+  module _ {X : View} {o : Result Taken Full} (s : Took n N limit W X (a ∷ live W lent) q o (shift_f F)) where
+    pub shift-full : o ≡ ran_out → DiamondPost n N limit W X lent t a q ran_out
     shift-full e fs h = ran_stop _ (diamond_f n R F) _ e (first_step s fs h)
 
-    module _ {x : ℕ} {q1 : Count} (e : o ≡ taken.At x q1) where
+    module _ {x : ℕ} {q1 : Count} (e : o ≡ taken x q1) where
       abbrev shift_need : List Fn → ℕ
       shift_need fs = step_need (2 * n) (F ∷ fs) (shift_f F)
 
@@ -252,7 +255,7 @@ module _ {n N limit : ℕ} {W : View} {lent : List ℕ} {t a : ℕ} (q : Count) 
       and-asks = step-pre and-base (kept-lent W lent k1) (x_is.arrow, t_is.arrow)
 
       module _
-          {Y : View} {u : Taken}
+          {Y : View} {u : Result Taken Full}
           (v : Took n N limit X Y (x ∷ t ∷ live X lent) q1 u (and_f (den (2 * n) (rows_of X) x) (den (2 * n) (rows_of X) t))) where
         v1 : Took n N limit X Y (x ∷ t ∷ live W lent) q1 u (and_f (shift_f F) R)
         v1 =
@@ -271,12 +274,12 @@ module _ {n N limit : ℕ} {W : View} {lent : List ℕ} {t a : ℕ} (q : Count) 
             (shift_f F ∷ R ∷ fs) = held-push (held-operand (held_keeps h k1) (held-mem h p.relation)) x_is in
             ran_step (held_alike (alike_cons x (alike_once p.relation)) g) (λ b i. there (there i)) v1
 
-        pub and-full : u ≡ taken.Full → DiamondPost n N limit W Y lent t a q taken.Full
+        pub and-full : u ≡ ran_out → DiamondPost n N limit W Y lent t a q ran_out
         and-full f fs h =
             ran_then e (shifted fs h) (λ c. needing_all (needing c (and_need fs)) (exists_needs n fs n (and_f (shift_f F) R)))
             (ran_stop _ (diamond_f n R F) _ f (joined fs h))
 
-        module _ {c : ℕ} {q2 : Count} (f : u ≡ taken.At c q2) where
+        module _ {c : ℕ} {q2 : Count} (f : u ≡ taken c q2) where
           k2 : Keeps (rows_of X) (rows_of Y) (live W lent)
           k2 = ran_kept f (joined all all_held)
 
@@ -289,7 +292,8 @@ module _ {n N limit : ℕ} {W : View} {lent : List ℕ} {t a : ℕ} (q : Count) 
           pub loop-asks : QuantifyPre n N limit Y lent c
           loop-asks = record { base = base-next p.base m2; arrows = kept-lent W lent (keeps_trans k1 k2); operand = c_is.arrow }
 
-          pub diamond-ends : {Z : View} {r : Taken} → QuantifyPost n N limit Y Z lent c q2 r → DiamondPost n N limit W Z lent t a q r
+          pub diamond-ends : {Z : View} {r : Result Taken Full} → QuantifyPost n N limit Y Z lent c q2 r
+              → DiamondPost n N limit W Z lent t a q r
           diamond-ends {Z} {r} g fs h =
               let l = g fs (held_moved lent m2 (keeps_trans k1 k2) h) in
               let l1 = subst (λ (G : Fn). Chained n N limit Y Z lent (exists_needs n fs n G) (exists_next n G) q2 r) (denoted c_is) l in
@@ -302,7 +306,7 @@ module _ {n N limit : ℕ} {W : View} {lent : List ℕ} {v a : ℕ} (q : Count) 
   pub not-asks : StepPre (2 * n) N limit W lent (Not a)
   not-asks = step-pre p.base p.arrows p.operand
 
-  module _ {X : View} {o : Taken} (s : Took n N limit W X (a ∷ live W lent) q o (not_f (den (2 * n) (rows_of W) a))) where
+  module _ {X : View} {o : Result Taken Full} (s : Took n N limit W X (a ∷ live W lent) q o (not_f (den (2 * n) (rows_of W) a))) where
     -- the operand and V as functions
     abbrev G : Fn
     G = den (2 * n) (rows_of W) a
@@ -321,10 +325,10 @@ module _ {n N limit : ℕ} {W : View} {lent : List ℕ} {v a : ℕ} (q : Count) 
         (needing q (step_need (2 * n) (G ∷ fs) (not_f G))) o
     negated fs h = ran_step (held-push h (denotes-own p.operand)) (λ b i. there i) s
 
-    pub not_full : o ≡ taken.Full → ComplementPost n N limit W X lent v a q taken.Full
+    pub not_full : o ≡ ran_out → ComplementPost n N limit W X lent v a q ran_out
     not_full e fs h = ran_stop _ (within_not E G) _ e (negated fs h)
 
-    module _ {b : ℕ} {q1 : Count} (e : o ≡ taken.At b q1) where
+    module _ {b : ℕ} {q1 : Count} (e : o ≡ taken b q1) where
       not-kept : Keeps (rows_of W) (rows_of X) (live W lent)
       not-kept = ran_kept e (negated roots-all roots-held)
 
@@ -341,7 +345,7 @@ module _ {n N limit : ℕ} {W : View} {lent : List ℕ} {v a : ℕ} (q : Count) 
       in-asks = step-pre in-base (kept-lent W lent not-kept) (not_is.arrow, valid-is.arrow)
 
       module _
-          {Y : View} {u : Taken}
+          {Y : View} {u : Result Taken Full}
           (w : Took n N limit X Y (b ∷ v ∷ live X lent) q1 u (and_f (den (2 * n) (rows_of X) b) (den (2 * n) (rows_of X) v))) where
         w1 : Took n N limit X Y (b ∷ v ∷ live W lent) q1 u (within_not E G)
         w1 =
@@ -367,7 +371,7 @@ module _ {n N limit : ℕ} {W : View} {lent : List ℕ} {v t a : ℕ} (q : Count
   pub complement-asks : ComplementPre n N limit W lent v a
   complement-asks = record { base = p.modal.base; arrows = p.modal.arrows; valid = p.valid; operand = p.modal.operand }
 
-  module _ {X : View} {o : Taken} (d : ComplementPost n N limit W X lent v a q o) where
+  module _ {X : View} {o : Result Taken Full} (d : ComplementPost n N limit W X lent v a q o) where
     -- the operand, the relation and V as functions, and NOT of the operand within V
     abbrev H : Fn
     H = den (2 * n) (rows_of W) a
@@ -391,10 +395,10 @@ module _ {n N limit : ℕ} {W : View} {lent : List ℕ} {v t a : ℕ} (q : Count
     abbrev later : List Fn → List ℕ
     later fs = diamond_needs n fs Q B ++ complement_needs n fs U (diamond_f n Q B)
 
-    pub first-full : o ≡ taken.Full → BoxPost n N limit W X lent v t a q taken.Full
+    pub first-full : o ≡ ran_out → BoxPost n N limit W X lent v t a q ran_out
     first-full e fs h = chain-stop limit (boxed_f n U Q H) q (complement_needs n fs U H) (later fs) e (d fs h)
 
-    module _ {b : ℕ} {q1 : Count} (e : o ≡ taken.At b q1) where
+    module _ {b : ℕ} {q1 : Count} (e : o ≡ taken b q1) where
       b_kept : Keeps (rows_of W) (rows_of X) (live W lent)
       b_kept = ran_kept e (d box-all box-held)
 
@@ -417,7 +421,7 @@ module _ {n N limit : ℕ} {W : View} {lent : List ℕ} {v t a : ℕ} (q : Count
         even = λ x y g. b_is.same x ∙ ap₂ (λ (c e : Bool). not c && e) (p.modal.even x y g) (p.states x y g) ∙ sym (b_is.same y);
       }
 
-      module _ {Y : View} {u : Taken} (m : DiamondPost n N limit X Y lent t b q1 u) where
+      module _ {Y : View} {u : Result Taken Full} (m : DiamondPost n N limit X Y lent t b q1 u) where
         inner : (fs : List Fn) → Held (2 * n) (rows_of W) (live W lent) fs
             → Ran n N X Y (live W lent) (fit limit (diamond_needs n fs Q B)) (diamond_f n Q B) (needing_all q1 (diamond_needs n fs Q B)) u
         inner fs h =
@@ -428,11 +432,11 @@ module _ {n N limit : ℕ} {W : View} {lent : List ℕ} {v t a : ℕ} (q : Count
             let l2 = subst (λ (G : Fn). Chained n N limit X Y lent (diamond_needs n fs G B) (diamond_f n G B) q1 u) (denoted r_is) l1 in
             ran_from lent b_moved l2
 
-        pub inner_full : u ≡ taken.Full → BoxPost n N limit W Y lent v t a q taken.Full
+        pub inner_full : u ≡ ran_out → BoxPost n N limit W Y lent v t a q ran_out
         inner_full f fs h = chain_then limit q (complement_needs n fs U H) (later fs) e (d fs h)
             (chain-stop limit (boxed_f n U Q H) q1 (diamond_needs n fs Q B) (complement_needs n fs U (diamond_f n Q B)) f (inner fs h))
 
-        module _ {c : ℕ} {q2 : Count} (f : u ≡ taken.At c q2) where
+        module _ {c : ℕ} {q2 : Count} (f : u ≡ taken c q2) where
           c_kept : Keeps (rows_of W) (rows_of Y) (live W lent)
           c_kept = keeps_trans b_kept (ran_kept f (inner box-all box-held))
 
@@ -453,7 +457,8 @@ module _ {n N limit : ℕ} {W : View} {lent : List ℕ} {v t a : ℕ} (q : Count
             operand = d_is.arrow;
           }
 
-          pub box-ends : {Z : View} {r : Taken} → ComplementPost n N limit Y Z lent v c q2 r → BoxPost n N limit W Z lent v t a q r
+          pub box-ends : {Z : View} {r : Result Taken Full} → ComplementPost n N limit Y Z lent v c q2 r
+              → BoxPost n N limit W Z lent v t a q r
           box-ends {Z} {r} w fs h =
               let D : Fn = diamond_f n Q B in
               let l = w fs (held_moved lent c_moved c_kept h) in

@@ -1,5 +1,6 @@
 -- The EXISTS that are left of a diamond's product, at once: where each needs at most the limit and the peak so far, the answer and the
 -- count are those of the chain. Assumes nothing.
+use Rattle.std.specs.Prelude.{Result}
 use mathlib.Core.Path.{◌≡◌, refl, sym, ap, ◌∙◌, subst, fun_ext}
 use mathlib.Core.Logic.{⊎_elim}
 use mathlib.Core.Bool.{Bool, true, false, ◌&&◌, cond, true≢false}
@@ -36,15 +37,14 @@ use Rattle.diagram.proofs.Blind.{blind_reads, blind-more, blind-same, exists-bli
 use Rattle.rows.specs.Used.{rows_of}
 use Rattle.rows.specs.Filled.{filled}
 use Rattle.table.proofs.Keep.{sound_extends}
-use Rattle.table.specs.declared.Found.{Found}
-use Rattle.table.specs.declared.Found.TheVariants as find
+use Rattle.std.specs.Prelude.{Option, Some}
 use Rattle.collect.specs.Lent.{live}
 use Rattle.operations.specs.Odd.{Grown}
 use Rattle.steps.specs.declared.Step.TheVariants.{Exists}
 use Rattle.steps.specs.Steps.{StepPre, Stepped, step_f, live_at}
-use Rattle.counting.specs.Taken.{made_in, Counted}
+use Rattle.table.specs.declared.Full.{Full}
+use Rattle.counting.specs.Taken.{taken, ran_out, made_in, Counted}
 use Rattle.counting.specs.declared.Taken.{Taken}
-use Rattle.counting.specs.declared.Taken.TheVariants as taken
 use Rattle.stages.specs.Left.{LeftFits}
 use Rattle.stages.specs.Rest.{RestPre, RestPost}
 use Rattle.book.specs.Ticks.{exists_needs, counted, full as full_verdict}
@@ -127,8 +127,8 @@ module _ {n N limit : ℕ} {W : View} {lent : List ℕ} {a : ℕ} (p : QuantifyP
   blind-begins = blind_reads {f = den (2 * n) (rows_of W) a} n (omega arith) (den_reads_all (base-wf p.base) a p.operand)
 
   module _ {X : View} {q r : Count} {j c : ℕ} (i : Quantified n N limit W X lent a q j c r) (b : Blind j (den (2 * n) (rows_of X) c)) where
-    pub blind-turns : {Y : View} {o : Taken} {d : ℕ} {m : Count} → 0 < j
-        → Took n N limit X Y (c ∷ live X lent) r o (exists_f (2 * (j - 1) + 1) (den (2 * n) (rows_of X) c)) → o ≡ taken.At d m
+    pub blind-turns : {Y : View} {o : Result Taken Full} {d : ℕ} {m : Count} → 0 < j
+        → Took n N limit X Y (c ∷ live X lent) r o (exists_f (2 * (j - 1) + 1) (den (2 * n) (rows_of X) c)) → o ≡ taken d m
         → Blind (j - 1) (den (2 * n) (rows_of Y) d)
     blind-turns {Y} {o} {d} {m} l s e =
         let k : ℕ = j - 1 in
@@ -196,8 +196,8 @@ module _ {n N limit : ℕ} {W : View} {lent : List ℕ} {a : ℕ} (p : QuantifyP
       pub grown-blind : Blind j (den (2 * n) (rows_of Y) c)
       grown-blind = subst (Blind j) (sym same) b
 
-    pub rest-ends : {Y : View} {o : Found} {v : ℕ} → j ≤ n → RestPost n X Y lent c j (min r.peak limit) o → o ≡ find.At v
-        → QuantifyPost n N limit W Y lent a q (taken.At v r)
+    pub rest-ends : {Y : View} {o : Option ℕ} {v : ℕ} → j ≤ n → RestPost n X Y lent c j (min r.peak limit) o → o ≡ Some v
+        → QuantifyPost n N limit W Y lent a q (taken v r)
     rest-ends {Y} {o} {v} le s e fs h = record {
       moved = both s.grown;
       evals = record {
@@ -255,16 +255,17 @@ module _ {n N limit : ℕ} {W : View} {lent : List ℕ} {a : ℕ} (p : QuantifyP
     pub stands-asks : 0 < j → StepPre (2 * n) N limit X lent (Exists (2 * (j - 1) + 1) c)
     stands-asks less = quantify-asks p i.done (omega (arith, i.fewer))
 
-    module _ {Y : View} {o : Taken} (less : 0 < j) (s : Stepped (2 * n) N limit X Y lent (Exists (2 * (j - 1) + 1) c) (made_in o))
+    module _ {Y : View} {o : Result Taken Full} (less : 0 < j)
+        (s : Stepped (2 * n) N limit X Y lent (Exists (2 * (j - 1) + 1) c) (made_in o))
         (k : Counted (2 * n) (rows_of X) (live_at X lent (Exists (2 * (j - 1) + 1) c)) (step_f (2 * n) (rows_of X) (Exists (2 * (j - 1) + 1) c))
         r o) where
       step : Took n N limit X Y (c ∷ live X lent) r o (exists_f (2 * (j - 1) + 1) (den (2 * n) (rows_of X) c))
       step = took (quantify-base p i.done) (stands-asks less) s k
 
-      pub stands-full : o ≡ taken.Full → QuantifyPost n N limit W Y lent a q taken.Full
+      pub stands-full : o ≡ ran_out → QuantifyPost n N limit W Y lent a q ran_out
       stands-full e = quantify-full p i.done less step e
 
-      pub stands-turns : {d : ℕ} {m : Count} → o ≡ taken.At d m → Stands n N limit W Y lent a q (j - 1) d m
+      pub stands-turns : {d : ℕ} {m : Count} → o ≡ taken d m → Stands n N limit W Y lent a q (j - 1) d m
       stands-turns e =
           record {
             done = quantify-turns p i.done less step e;
@@ -278,9 +279,9 @@ module _ {n N limit : ℕ} {W : View} {lent : List ℕ} {a : ℕ} (p : QuantifyP
     pub stands-grown : {Y : View} → Grown (2 * n) X Y → Stands n N limit W Y lent a q j c r
     stands-grown g = record { done = grown-on p i.done i.blind g; blind = grown-blind p i.done i.blind g; fewer = i.fewer }
 
-    pub stands-found : {Y : View} {o : Found} {v : ℕ} → RestPost n X Y lent c j (min r.peak limit) o → o ≡ find.At v
-        → QuantifyPost n N limit W Y lent a q (taken.At v r)
+    pub stands-found : {Y : View} {o : Option ℕ} {v : ℕ} → RestPost n X Y lent c j (min r.peak limit) o → o ≡ Some v
+        → QuantifyPost n N limit W Y lent a q (taken v r)
     stands-found s e = rest-ends p i.done i.blind i.fewer s e
 
-    pub stands-ends : j ≤ 0 → QuantifyPost n N limit W X lent a q (taken.At c r)
+    pub stands-ends : j ≤ 0 → QuantifyPost n N limit W X lent a q (taken c r)
     stands-ends z = quantify-ends p i.done z

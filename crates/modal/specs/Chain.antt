@@ -1,5 +1,5 @@
 -- A chain of steps over the words: what it starts from and what it leaves. Assumes nothing.
-use Rattle.std.specs.Prelude.{Bool, List, ℕ, ◌*◌}
+use Rattle.std.specs.Prelude.{Bool, List, ℕ, ◌*◌, Result}
 use Rattle.accounts.specs.declared.Count.{Count}
 use Rattle.layout.specs.View.{View}
 use Rattle.diagram.specs.Level.{Fn}
@@ -9,6 +9,7 @@ use Rattle.rows.specs.Sound.{Sound}
 use Rattle.table.specs.Make.{result}
 use Rattle.memory.specs.Memo.{Remembers}
 use Rattle.operations.specs.Work.{OpFrame, Ready}
+use Rattle.table.specs.declared.Full.{Full}
 use Rattle.counting.specs.Taken.{made_in, count_in}
 use Rattle.counting.specs.declared.Taken.{Taken}
 use Rattle.book.specs.Pairs.{PairEvals}
@@ -36,6 +37,6 @@ pub record Moved (n : ℕ) (W X : View) : Type 0 where
 -- ---- a chain
 
 -- a chain of steps for F whose needs fit, or do not, c being counted in the book after it: what it leaves of the words, and its answer
-pub record Ran (n N : ℕ) (W X : View) (roots : List ℕ) (fits : Bool) (F : Fn) (c : Count) (o : Taken) : Type 0 where
+pub record Ran (n N : ℕ) (W X : View) (roots : List ℕ) (fits : Bool) (F : Fn) (c : Count) (o : Result Taken Full) : Type 0 where
   pub moved : Moved n W X
   pub evals : PairEvals n N (rows_of W) (rows_of X) roots fits F c (result (made_in o)) (count_in o)

@@ -1,6 +1,6 @@
 -- What diamond and box ask and promise, over functions of levels. Assumes nothing.
 use mathlib.Core.List.{List, [], ◌∷◌, ◌++◌, Memᴰ as Mem}
-use Rattle.std.specs.Prelude.{ℕ, ◌*◌}
+use Rattle.std.specs.Prelude.{ℕ, ◌*◌, Result}
 use Rattle.accounts.specs.declared.Count.{Count}
 use Rattle.layout.specs.View.{View}
 use Rattle.diagram.specs.Level.{Fn}
@@ -12,6 +12,7 @@ use Rattle.rows.specs.Used.{rows_of}
 use Rattle.collect.specs.Lent.{live}
 use Rattle.book.specs.Ticks.{exists_needs, diamond_needs}
 use Rattle.book.specs.Diamond.{exists_next, diamond_f}
+use Rattle.table.specs.declared.Full.{Full}
 use Rattle.counting.specs.declared.Taken.{Taken}
 use Rattle.book.specs.Run.{needing_all, fit}
 use Rattle.book.specs.Held.{Held}
@@ -35,7 +36,7 @@ abbrev pub boxed_f : ℕ → Fn → Fn → Fn → Fn
 boxed_f n E R F = within_not E (diamond_f n R (within_not E F))
 
 -- a chain of steps with these needs, for F
-abbrev pub Chained : ℕ → ℕ → ℕ → View → View → List ℕ → List ℕ → Fn → Count → Taken → Type 0
+abbrev pub Chained : ℕ → ℕ → ℕ → View → View → List ℕ → List ℕ → Fn → Count → Result Taken Full → Type 0
 Chained n N limit W X lent needs F q o = Ran n N W X (live W lent) (fit limit needs) F (needing_all q needs) o
 
 -- a table between steps, lent arrows, and an operand
@@ -67,24 +68,24 @@ pub record BoxPre (n N limit : ℕ) (W : View) (lent : List ℕ) (v t a : ℕ) :
 
 -- whatever functions `fs` registers, relations and the lent arrows hold: each step is answered exactly where it and `fs` need at most
 -- `limit` rows, and its need is counted, q being counted before
-abbrev pub QuantifyPost : ℕ → ℕ → ℕ → View → View → List ℕ → ℕ → Count → Taken → Type 0
+abbrev pub QuantifyPost : ℕ → ℕ → ℕ → View → View → List ℕ → ℕ → Count → Result Taken Full → Type 0
 QuantifyPost n N limit W X lent a q o =
     (fs : List Fn) → Held (2 * n) (rows_of W) (live W lent) fs
     → Chained n N limit W X lent (exists_needs n fs n (den (2 * n) (rows_of W) a)) (exists_next n (den (2 * n) (rows_of W) a)) q o
 
-abbrev pub DiamondPost : ℕ → ℕ → ℕ → View → View → List ℕ → ℕ → ℕ → Count → Taken → Type 0
+abbrev pub DiamondPost : ℕ → ℕ → ℕ → View → View → List ℕ → ℕ → ℕ → Count → Result Taken Full → Type 0
 DiamondPost n N limit W X lent t a q o =
     (fs : List Fn) → Held (2 * n) (rows_of W) (live W lent) fs
     → Chained n N limit W X lent (diamond_needs n fs (den (2 * n) (rows_of W) t) (den (2 * n) (rows_of W) a))
     (diamond_f n (den (2 * n) (rows_of W) t) (den (2 * n) (rows_of W) a)) q o
 
-abbrev pub ComplementPost : ℕ → ℕ → ℕ → View → View → List ℕ → ℕ → ℕ → Count → Taken → Type 0
+abbrev pub ComplementPost : ℕ → ℕ → ℕ → View → View → List ℕ → ℕ → ℕ → Count → Result Taken Full → Type 0
 ComplementPost n N limit W X lent v a q o =
     (fs : List Fn) → Held (2 * n) (rows_of W) (live W lent) fs
     → Chained n N limit W X lent (complement_needs n fs (den (2 * n) (rows_of W) v) (den (2 * n) (rows_of W) a))
     (within_not (den (2 * n) (rows_of W) v) (den (2 * n) (rows_of W) a)) q o
 
-abbrev pub BoxPost : ℕ → ℕ → ℕ → View → View → List ℕ → ℕ → ℕ → ℕ → Count → Taken → Type 0
+abbrev pub BoxPost : ℕ → ℕ → ℕ → View → View → List ℕ → ℕ → ℕ → ℕ → Count → Result Taken Full → Type 0
 BoxPost n N limit W X lent v t a q o =
     (fs : List Fn) → Held (2 * n) (rows_of W) (live W lent) fs
     → Chained n N limit W X lent (boxed_needs n fs (den (2 * n) (rows_of W) v) (den (2 * n) (rows_of W) t) (den (2 * n) (rows_of W) a))

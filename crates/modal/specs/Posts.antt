@@ -1,8 +1,9 @@
 -- What diamond and box ask of the words and promise of them, by name. Each is a record or a promise over the view, and that the counts are
 -- right. Assumes nothing.
-use Rattle.std.specs.Prelude.{List, ℕ}
+use Rattle.std.specs.Prelude.{List, ℕ, Result}
 use Rattle.accounts.specs.declared.Count.{Count}
 use Rattle.layout.specs.View.{View, view}
+use Rattle.table.specs.declared.Full.{Full}
 use Rattle.counting.specs.declared.Taken.{Taken}
 use Rattle.counting.specs.Counts.{CountsOf}
 use Rattle.modal.specs.declared.Limits.{Limits}
@@ -37,21 +38,21 @@ module _ (l : Limits) (words counts roots : List ℕ) where
 -- after a call: what they give, with `count` counted before
 module _ (l : Limits) (before after counts roots : List ℕ) where
   -- EXISTS at every odd level of a, each step exactly within the limit, and its needs counted
-  abbrev pub QuantifyGives : (a : ℕ) (count : Count) (taken : Taken) → Type 0
+  abbrev pub QuantifyGives : (a : ℕ) (count : Count) (taken : Result Taken Full) → Type 0
   QuantifyGives a count taken =
       Counted l after counts (QuantifyPost l.bits l.rows l.limit (view_in l before) (view_in l after) roots a count taken)
 
   -- diamond of a by the relation, so too
-  abbrev pub DiamondGives : (relation a : ℕ) (count : Count) (taken : Taken) → Type 0
+  abbrev pub DiamondGives : (relation a : ℕ) (count : Count) (taken : Result Taken Full) → Type 0
   DiamondGives relation a count taken =
       Counted l after counts (DiamondPost l.bits l.rows l.limit (view_in l before) (view_in l after) roots relation a count taken)
 
   -- NOT of a within V, so too
-  abbrev pub ComplementGives : (valid a : ℕ) (count : Count) (taken : Taken) → Type 0
+  abbrev pub ComplementGives : (valid a : ℕ) (count : Count) (taken : Result Taken Full) → Type 0
   ComplementGives valid a count taken =
       Counted l after counts (ComplementPost l.bits l.rows l.limit (view_in l before) (view_in l after) roots valid a count taken)
 
   -- box of a by the relation within V, so too
-  abbrev pub BoxGives : (valid relation a : ℕ) (count : Count) (taken : Taken) → Type 0
+  abbrev pub BoxGives : (valid relation a : ℕ) (count : Count) (taken : Result Taken Full) → Type 0
   BoxGives valid relation a count taken =
       Counted l after counts (BoxPost l.bits l.rows l.limit (view_in l before) (view_in l after) roots valid relation a count taken)

@@ -9,7 +9,7 @@ use counting::{Taken, take};
 use layout::Table;
 use stages::rest;
 use steps::Step;
-use table::Found;
+use table::Full;
 
 // The sizes of a table and what an evaluation may use of it: state bits, rows, the row limit and the rounds.
 #[derive(Clone, Copy)]
@@ -28,15 +28,14 @@ fn quantify(
     roots: &[u32],
     a: u32,
     count: Count,
-) -> Taken
+) -> Result<Taken, Full>
     requires { QuantifyAsks limits words.old counts.old roots.now a }
     ensures { QuantifyGives limits words.old words.new counts.new roots.now a count result }
 {
     let levels = 2 * limits.bits;
     let mut c = a;
     let mut total = count;
-    let mut left = limits.bits;
-    while 0 < left {
+    for left in (0..limits.bits).rev() {
         let found = rest(
             words,
             counts,
@@ -45,21 +44,17 @@ fn quantify(
             limits.limit,
             roots,
             c,
-            left,
+            left + 1,
             total.peak,
         );
-        if let Found::At(r) = found {
-            return Taken::At {
+        if let Some(r) = found {
+            return Ok(Taken {
                 arrow: r,
                 count: total,
-            };
+            });
         }
-        left -= 1;
         let step = Step::Exists(2 * left + 1, c);
-        let Taken::At {
-            arrow: d,
-            count: more,
-        } = take(
+        let next = take(
             words,
             counts,
             limits.rows,
@@ -68,17 +63,14 @@ fn quantify(
             roots,
             step,
             total,
-        )
-        else {
-            return Taken::Full;
-        };
-        c = d;
-        total = more;
+        )?;
+        c = next.arrow;
+        total = next.count;
     }
-    Taken::At {
+    Ok(Taken {
         arrow: c,
         count: total,
-    }
+    })
 }
 
 // Diamond: SHIFT, AND with the relation, EXISTS at each next bit.
@@ -90,16 +82,13 @@ pub fn diamond(
     relation: u32,
     a: u32,
     count: Count,
-) -> Taken
+) -> Result<Taken, Full>
     requires { DiamondAsks limits words.old counts.old roots.now relation a }
     ensures { DiamondGives limits words.old words.new counts.new roots.now
         relation a count result }
 {
     let levels = 2 * limits.bits;
-    let Taken::At {
-        arrow: x,
-        count: first,
-    } = take(
+    let first = take(
         words,
         counts,
         limits.rows,
@@ -108,27 +97,18 @@ pub fn diamond(
         roots,
         Step::Shift(a),
         count,
-    )
-    else {
-        return Taken::Full;
-    };
-    let Taken::At {
-        arrow: c,
-        count: second,
-    } = take(
+    )?;
+    let second = take(
         words,
         counts,
         limits.rows,
         levels,
         limits.limit,
         roots,
-        Step::And(x, relation),
-        first,
-    )
-    else {
-        return Taken::Full;
-    };
-    quantify(words, counts, limits, roots, c, second)
+        Step::And(first.arrow, relation),
+        first.count,
+    )?;
+    quantify(words, counts, limits, roots, second.arrow, second.count)
 }
 
 // NOT of an arrow within V, the states that exist: the step NOT, and AND with V. Where V is every state, that answers and needs the same.
@@ -140,16 +120,13 @@ pub fn complement(
     valid: u32,
     a: u32,
     count: Count,
-) -> Taken
+) -> Result<Taken, Full>
     requires { ComplementAsks limits words.old counts.old roots.now valid a }
     ensures { ComplementGives limits words.old words.new counts.new roots.now
         valid a count result }
 {
     let levels = 2 * limits.bits;
-    let Taken::At {
-        arrow: b,
-        count: first,
-    } = take(
+    let first = take(
         words,
         counts,
         limits.rows,
@@ -158,15 +135,9 @@ pub fn complement(
         roots,
         Step::Not(a),
         count,
-    )
-    else {
-        return Taken::Full;
-    };
+    )?;
     if valid == Table::EVERYTHING {
-        return Taken::At {
-            arrow: b,
-            count: first,
-        };
+        return Ok(first);
     }
     take(
         words,
@@ -175,8 +146,8 @@ pub fn complement(
         levels,
         limits.limit,
         roots,
-        Step::And(b, valid),
-        first,
+        Step::And(first.arrow, valid),
+        first.count,
     )
 }
 
@@ -190,24 +161,28 @@ pub fn boxed(
     relation: u32,
     a: u32,
     count: Count,
-) -> Taken
+) -> Result<Taken, Full>
     requires { BoxAsks limits words.old counts.old roots.now valid relation a }
     ensures { BoxGives limits words.old words.new counts.new roots.now
         valid relation a count result }
 {
-    let Taken::At {
-        arrow: b,
-        count: first,
-    } = complement(words, counts, limits, roots, valid, a, count)
-    else {
-        return Taken::Full;
-    };
-    let Taken::At {
-        arrow: c,
-        count: second,
-    } = diamond(words, counts, limits, roots, relation, b, first)
-    else {
-        return Taken::Full;
-    };
-    complement(words, counts, limits, roots, valid, c, second)
+    let first = complement(words, counts, limits, roots, valid, a, count)?;
+    let second = diamond(
+        words,
+        counts,
+        limits,
+        roots,
+        relation,
+        first.arrow,
+        first.count,
+    )?;
+    complement(
+        words,
+        counts,
+        limits,
+        roots,
+        valid,
+        second.arrow,
+        second.count,
+    )
 }

@@ -1,5 +1,6 @@
 -- Diamond of the later set, the fitting states and AND of both are one chain, with the later set live throughout, and the diamond's from
 -- its end on. Assumes nothing.
+use Rattle.std.specs.Prelude.{Result}
 use mathlib.Core.Path.{◌≡◌, refl, sym, ap, ap₂, ◌∙◌, subst}
 use mathlib.Core.Logic.{⊎_elim}
 use mathlib.Core.Bool.{Bool, ◌&&◌}
@@ -29,8 +30,9 @@ use Rattle.diagram.specs.Steps.{and_f}
 use Rattle.rows.specs.Used.{rows_of}
 use Rattle.rows.specs.Filled.{filled}
 use Rattle.collect.specs.Lent.{live}
+use Rattle.table.specs.declared.Full.{Full}
+use Rattle.counting.specs.Taken.{taken, ran_out}
 use Rattle.counting.specs.declared.Taken.{Taken}
-use Rattle.counting.specs.declared.Taken.TheVariants as taken
 use Rattle.steps.specs.declared.Step.TheVariants.{And}
 use Rattle.steps.specs.Steps.{StepPre}
 use Rattle.steps.proofs.Steps.{live-arrows, live_same}
@@ -78,13 +80,14 @@ alike_swap {A} x y xs = record { to = λ a h. swap x y a h; from = λ a h. swap 
         ⊎_elim (λ e. there (here e)) (λ i. ⊎_elim (λ e. here e) (λ j. there (there j)) (mem-cases i)) (mem-cases h)
 
 -- a chain keeps each part of its roots
-pub ran_fewer : {n N : ℕ} {W X : View} {xs ys : List ℕ} {b : Bool} {F : Fn} {c : Count} {o : Taken} → Within xs ys → Ran n N W X ys b F c o
+pub ran_fewer : {n N : ℕ} {W X : View} {xs ys : List ℕ} {b : Bool} {F : Fn} {c : Count} {o : Result Taken Full} → Within xs ys
+    → Ran n N W X ys b F c o
     → Ran n N W X xs b F c o
 ran_fewer w r =
     record { moved = r.moved; evals = record { wf = r.evals.wf; kept = keeps_within w r.evals.kept; result = r.evals.result } }
 
 -- the fitting states, of sets: E is V
-pub ran_fitting : (n N limit : ℕ) (W X : View) (lent : List ℕ) (v mask value : ℕ) (q : Count) (o : Taken)
+pub ran_fitting : (n N limit : ℕ) (W X : View) (lent : List ℕ) (v mask value : ℕ) (q : Count) (o : Result Taken Full)
     → FittingPost n N limit W X lent v mask value q o → (fs : List Fn) (E : List Bool) (m : Moment) → Held (2 * n) (rows_of W) (live W
     lent) fs
     → Denotes (2 * n) (rows_of W) v (fn_of n E) → Joins m mask value
@@ -125,7 +128,7 @@ module _ {n N limit : ℕ} {W : View} {t v x : ℕ} (p : NextPre n N limit W t v
   all_held : Held (2 * n) (rows_of W) (live W lent) all
   all_held = held-own (live-arrows lent p.base.sound lent-arrow)
 
-  module _ {X : View} {o : Taken} (d : DiamondPost n N limit W X lent t x (uncounted N) o) where
+  module _ {X : View} {o : Result Taken Full} (d : DiamondPost n N limit W X lent t x (uncounted N) o) where
     -- the diamond, of sets
     ran_dia : (fs : List Fn) (R : Pairs) (L : List Bool) → Held (2 * n) (rows_of W) (filled W) fs
         → Denotes (2 * n) (rows_of W) t (fn_of_pairs n R) → Denotes (2 * n) (rows_of W) x (fn_of n L)
@@ -140,17 +143,17 @@ module _ {n N limit : ℕ} {W : View} {t v x : ℕ} (p : NextPre n N limit W t v
         let r2 = subst (λ (T : Fn). Q T (fn_of n L) (diamond_f n T (fn_of n L))) (denoted dt) r1 in
         subst (λ (G : Fn). Q (fn_of_pairs n R) (fn_of n L) G) (sym (diamond-exact n R L)) r2
 
-    pub dia_full : (mask value : ℕ) → o ≡ taken.Full → BeforePost n N limit W X t v x mask value taken.Full
+    pub dia_full : (mask value : ℕ) → o ≡ ran_out → BeforePost n N limit W X t v x mask value ran_out
     dia_full mask value e fs R E L m h dt dv dx a =
         let ls = fn_of n L ∷ fs in
         let D = sometimes (2 ^ n) R L in
         let more = fit_needs n (fn_of n D ∷ ls) E m ++ (two_need n ls (inter (2 ^ n)) D (existing (2 ^ n) E m) ∷ []) in
         let G : Fn = fn_of n (inter (2 ^ n) D (existing (2 ^ n) E m)) in
         let q = needing_all (uncounted N) (before_needs n fs R E m L) in
-        subst (λ (z : Bool). Ran n N W X (live W lent) z G q taken.Full) (sym (fit_append limit (dia_needs n ls R L) more))
+        subst (λ (z : Bool). Ran n N W X (live W lent) z G q ran_out) (sym (fit_append limit (dia_needs n ls R L) more))
         (ran_stop (fit limit more) G q e (ran_dia fs R L h dt dx))
 
-    module _ {c : ℕ} {q : Count} (e : o ≡ taken.At c q) where
+    module _ {c : ℕ} {q : Count} (e : o ≡ taken c q) where
       k1 : Keeps (rows_of W) (rows_of X) (live W lent)
       k1 = ran_kept e (d all all_held)
 
@@ -189,7 +192,7 @@ module _ {n N limit : ℕ} {W : View} {t v x : ℕ} (p : NextPre n N limit W t v
           → Held (2 * n) (rows_of X) (live W both) (G ∷ F ∷ fs)
       held_both h dx dc = held_alike (alike_two (filled W) x c) (held-push (held_keeps (held-live h dx) k1) dc)
 
-      module _ (mask value : ℕ) {Y : View} {u : Taken} (f : FittingPost n N limit X Y both v mask value q u) where
+      module _ (mask value : ℕ) {Y : View} {u : Result Taken Full} (f : FittingPost n N limit X Y both v mask value q u) where
         own : Held (2 * n) (rows_of X) (live X both) (map (den (2 * n) (rows_of X)) (live X both))
         own = held-own (live-arrows both moved1.sound both-arrow)
 
@@ -208,7 +211,7 @@ module _ {n N limit : ℕ} {W : View} {t v x : ℕ} (p : NextPre n N limit W t v
             (needing_all q (fit_needs n ls E m)) u) both-live r
 
         -- one chain with what comes after it
-        join : (fs : List Fn) (R : Pairs) (E L : List Bool) (m : Moment) {Z : View} {w : Taken}
+        join : (fs : List Fn) (R : Pairs) (E L : List Bool) (m : Moment) {Z : View} {w : Result Taken Full}
             → Held (2 * n) (rows_of W) (filled W) fs → Denotes (2 * n) (rows_of W) t (fn_of_pairs n R)
             → Denotes (2 * n) (rows_of W) x (fn_of n L)
             → Ran n N X Z (live W lent) (fit limit (fit_needs n (fn_of n (sometimes (2 ^ n) R L) ∷ fn_of n L ∷ fs) E m)
@@ -234,7 +237,7 @@ module _ {n N limit : ℕ} {W : View} {t v x : ℕ} (p : NextPre n N limit W t v
             subst (λ (z : Count). Ran n N W Z (live W lent) (fit limit (A ++ (B ++ (k ∷ [])))) G z w) counts
             (subst (λ (z : Bool). Ran n N W Z (live W lent) z G (needing (needing_all (needing_all (uncounted N) A) B) k) w) fits l)
 
-        pub fit-full : u ≡ taken.Full → BeforePost n N limit W Y t v x mask value taken.Full
+        pub fit-full : u ≡ ran_out → BeforePost n N limit W Y t v x mask value ran_out
         fit-full i fs R E L m h dt dv dx a =
             let ls = fn_of n L ∷ fs in
             let D = sometimes (2 ^ n) R L in
@@ -244,7 +247,7 @@ module _ {n N limit : ℕ} {W : View} {t v x : ℕ} (p : NextPre n N limit W t v
             join fs R E L m h dt dx
             (ran_stop (leb k limit) G (needing (needing_all q B) k) i (ran_fewer fewer (ran_fit fs R E L m h dt dv dx a)))
 
-        module _ {g : ℕ} {q2 : Count} (i : u ≡ taken.At g q2) where
+        module _ {g : ℕ} {q2 : Count} (i : u ≡ taken g q2) where
           k2 : Keeps (rows_of X) (rows_of Y) (live X both)
           k2 = ran_kept i (f _ own)
 
@@ -266,7 +269,7 @@ module _ {n N limit : ℕ} {W : View} {t v x : ℕ} (p : NextPre n N limit W t v
               (λ a h. ⊎_elim (λ j. subst (Arrow (rows_of Y)) (sym j) (keeps_arrow k2 x x_live)) (λ n. absurd (mem-nil n)) (mem-cases h))
               (keeps_arrow k2 c c_live, (ran_value i (f _ own)).arrow)
 
-          pub before-ends : {Z : View} {w : Taken}
+          pub before-ends : {Z : View} {w : Result Taken Full}
               → Took n N limit Y Z (c ∷ g ∷ live Y lent) q2 w (and_f (den (2 * n) (rows_of Y) c) (den (2 * n) (rows_of Y) g))
               → BeforePost n N limit W Z t v x mask value w
           before-ends {Z} {w} s fs R E L m h dt dv dx a =

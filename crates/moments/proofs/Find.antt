@@ -6,12 +6,14 @@ use Prim.Native.Nat.{ℕ, suc, ◌-◌, ◌/◌, ◌^◌, ◌≤◌, ◌<◌}
 use native.Mathlib.Omega.{arith}
 use lib.Dec.{T, ltb→lt, lt→ltb}
 use lib.ListN.{length, set}
+use Rattle.std.specs.Prelude.{Result, Ok, Err}
 use Rattle.mucalculus.specs.Sets.{mem}
 use Rattle.mucalculus.proofs.Sets.{true_of, false_of}
 use Rattle.layout.specs.View.{View}
+use Rattle.layout.specs.declared.Refusal.{Refusal}
 use Rattle.layout.specs.declared.Refusal.TheVariants as refusal
-use Rattle.table.specs.declared.Made.{Made}
-use Rattle.table.specs.declared.Made.TheVariants as made
+use Rattle.table.specs.declared.Full.{Full}
+use Rattle.table.specs.Full.{rows_out}
 use Rattle.book.specs.Run.{fit}
 use Rattle.modal.specs.Chain.{Base}
 use Rattle.modal.proofs.Chain.{base-next, base-bits}
@@ -32,8 +34,6 @@ use Rattle.logs.proofs.Starts.{run-size}
 use Rattle.moments.specs.Sets.{set_of, needs_of, HasSet, MakePre, Ends, is-full, MakePost}
 use Rattle.moments.specs.Write.{Onward, rest_of, WritePre, WritePost}
 use Rattle.moments.specs.Find.{OutcomeTold, FindPre, FindPost}
-use Rattle.moments.specs.declared.Logged.{Logged}
-use Rattle.moments.specs.declared.Logged.TheVariants as answer
 use Rattle.moments.proofs.Write.{set-made, never-full}
 
 -- ---- the outcome by its three tests
@@ -71,7 +71,7 @@ module _ {n : ℕ} {W : View} {t v : ℕ} (limit : ℕ) (S : Scene n W t v) (one
   outcome-found e m l =
       decided-found fits (inhabited (2 ^ n) X) whole room (pass ∙ e) m (subst (λ (k : ℕ). k ≤ room) (sym whole-size) l)
 
-told-by : {o o' : Outcome} {r : Logged} {old new : List ℕ} → o ≡ o' → OutcomeTold o' r old new → OutcomeTold o r old new
+told-by : {o o' : Outcome} {r : Result (Unit {0}) Refusal} {old new : List ℕ} → o ≡ o' → OutcomeTold o' r old new → OutcomeTold o r old new
 told-by {r = r} {old = old} {new = new} e h = subst (λ (x : Outcome). OutcomeTold x r old new) (sym e) h
 
 -- ---- the search
@@ -88,22 +88,22 @@ module _ {n N limit : ℕ} {W : View} {t v : ℕ} {one two : List ℕ} (p : Find
   abbrev j : ℕ
   j = last_moment one
 
-  module _ {X : View} {o : Made} (f : MakePost n limit W X t v one two 0 o) where
+  module _ {X : View} {o : Result ℕ Full} (f : MakePost n limit W X t v one two 0 o) where
     ended : (S : Scene n W t v) → Ends n limit W X t v S one two j 0 o
     ended S = let e : last_moment one - 0 ≡ j = omega arith in subst (λ (j : ℕ). Ends n limit W X t v S one two j 0 o) e (f S)
 
-    pub find-full : {old : List ℕ} → o ≡ made.Full → FindPost n limit W X t v one two old old (answer.Refused refusal.Full)
+    pub find-full : {old : List ℕ} → o ≡ Err rows_out → FindPost n limit W X t v one two old old (Err refusal.Full)
     find-full {old} e S =
         let d = ended S in
         record {
-          steps = full-steps (subst (λ (o : Made). Ends n limit W X t v S one two j 0 o) e d);
+          steps = full-steps (subst (λ (o : Result ℕ Full). Ends n limit W X t v S one two j 0 o) e d);
           told = told-by (outcome-full limit S one two j (length old) (never-full d e)) (record { reply = refl; list = refl });
         }
       where
-        full-steps : {S : Scene n W t v} → Ends n limit W X t v S one two j 0 made.Full → Steps n W X
+        full-steps : {S : Scene n W t v} → Ends n limit W X t v S one two j 0 (Err rows_out) → Steps n W X
         full-steps (is-full s g) = s
 
-    module _ {x : ℕ} (ex : o ≡ made.At x) where
+    module _ {x : ℕ} (ex : o ≡ Ok x) where
       set_at : (S : Scene n W t v) → HasSet n limit W X t v S one two j 0 x
       set_at S = set-made (ended S) ex
 
@@ -125,7 +125,7 @@ module _ {n N limit : ℕ} {W : View} {t v : ℕ} {one two : List ℕ} (p : Find
             (both-mem n W X A A base-after.ready.levels-is (set_at S).set_is (set_at S).set_is)
             ∙ first-same (2 ^ n) (λ s. mem A s && mem A s) (λ s. mem A s) (λ s h. and_self (mem A s))
 
-        pub find_none : {old : List ℕ} → 2 ^ n ≤ s → FindPost n limit W X t v one two old old (answer.Refused refusal.NoRun)
+        pub find_none : {old : List ℕ} → 2 ^ n ≤ s → FindPost n limit W X t v one two old old (Err refusal.NoRun)
         find_none {old} h S =
             let A = set_of S one two j 0 in
             let e = first-is S in
@@ -142,7 +142,7 @@ module _ {n N limit : ℕ} {W : View} {t v : ℕ} {one two : List ℕ} (p : Find
               let A = set_of S one two j 0 in
               lt→ltb (least_of (2 ^ n) A) (2 ^ n) (subst (λ (s : ℕ). s < 2 ^ n) (first-is S) h)
 
-          pub find-short : {old : List ℕ} → length old < length one / 2 → FindPost n limit W X t v one two old old (answer.Refused
+          pub find-short : {old : List ℕ} → length old < length one / 2 → FindPost n limit W X t v one two old old (Err
               refusal.Short)
           find-short {old} r S = record {
             steps = (set_at S).steps;
@@ -171,7 +171,7 @@ module _ {n N limit : ℕ} {W : View} {t v : ℕ} {one two : List ℕ} (p : Find
 
           pub find-written : {Y : View} (old : List ℕ) {new : List ℕ} → length one / 2 ≤ length old
               → WritePost n limit X Y t v one two s (set old 0 s) new
-              → FindPost n limit W Y t v one two old new answer.Done
+              → FindPost n limit W Y t v one two old new (Ok tt)
           find-written {Y} old {new} r w S =
               let T1 = set_at S in
               let q = w (scene-later p.start T1.steps S) (ready_at S) in

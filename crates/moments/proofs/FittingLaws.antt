@@ -1,5 +1,6 @@
 -- The step that makes the fitting states, and AND with V, are one chain: as NOT within V is, with a cube in the place of NOT.
 -- Assumes nothing.
+use Rattle.std.specs.Prelude.{Result}
 use mathlib.Core.Path.{◌≡◌, sym, ap₂, subst}
 use mathlib.Core.Bool.{Bool, ◌&&◌}
 use mathlib.Core.List.Memᴰ.{tail as there}
@@ -22,8 +23,9 @@ use Rattle.collect.specs.Lent.{live}
 use Rattle.steps.specs.declared.Step.TheVariants.{Cube, And}
 use Rattle.steps.specs.Steps.{StepPre}
 use Rattle.steps.proofs.Steps.{live-arrows, live_same}
+use Rattle.table.specs.declared.Full.{Full}
+use Rattle.counting.specs.Taken.{taken, ran_out}
 use Rattle.counting.specs.declared.Taken.{Taken}
-use Rattle.counting.specs.declared.Taken.TheVariants as taken
 use Rattle.book.specs.Held.{Held}
 use Rattle.book.proofs.Held.{denoted, held-push, held-operand, held_keeps}
 use Rattle.modal.proofs.Chain.{alike_cons, alike_once, held_alike, denotes-own, held-own, base-next}
@@ -38,7 +40,7 @@ module _ {n N limit : ℕ} {W : View} {lent : List ℕ} {v : ℕ} (mask value : 
   pub cube-asks : StepPre (2 * n) N limit W lent (Cube value (bit_xor mask value))
   cube-asks = step-pre p.base p.arrows tt
 
-  module _ {X : View} {a : Taken} (s : Took n N limit W X (live W lent) q a (entry_f (2 * n) mask value)) where
+  module _ {X : View} {a : Result Taken Full} (s : Took n N limit W X (live W lent) q a (entry_f (2 * n) mask value)) where
     abbrev C : Fn
     C = entry_f (2 * n) mask value
 
@@ -53,10 +55,10 @@ module _ {n N limit : ℕ} {W : View} {lent : List ℕ} {v : ℕ} (mask value : 
         → Ran n N W X (live W lent) (leb (step_need (2 * n) fs C) limit) C (needing q (step_need (2 * n) fs C)) a
     cubed fs h = ran_step h (λ b i. i) s
 
-    pub fit-full : a ≡ taken.Full → FittingPost n N limit W X lent v mask value q taken.Full
+    pub fit-full : a ≡ ran_out → FittingPost n N limit W X lent v mask value q ran_out
     fit-full e fs h = ran_stop _ (and_f C E) _ e (cubed fs h)
 
-    module _ {f : ℕ} {q1 : Count} (e : a ≡ taken.At f q1) where
+    module _ {f : ℕ} {q1 : Count} (e : a ≡ taken f q1) where
       cube-kept : Keeps (rows_of W) (rows_of X) (live W lent)
       cube-kept = ran_kept e (cubed _ roots-held)
 
@@ -73,7 +75,7 @@ module _ {n N limit : ℕ} {W : View} {lent : List ℕ} {v : ℕ} (mask value : 
       and-asks = step-pre and-base (kept-lent W lent cube-kept) (cube-is.arrow, valid-is.arrow)
 
       module _
-          {Y : View} {u : Taken}
+          {Y : View} {u : Result Taken Full}
           (w : Took n N limit X Y (f ∷ v ∷ live X lent) q1 u (and_f (den (2 * n) (rows_of X) f) (den (2 * n) (rows_of X) v))) where
         w1 : Took n N limit X Y (f ∷ v ∷ live W lent) q1 u (and_f C E)
         w1 =

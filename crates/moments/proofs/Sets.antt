@@ -1,5 +1,6 @@
 -- The sets from the last moment on: each turn makes the set of the moment before, and what does not fit now fits for no earlier set.
 -- Assumes nothing.
+use Rattle.std.specs.Prelude.{Result}
 use mathlib.Core.Path.{◌≡◌, sym, ap, ◌∙◌, subst}
 use mathlib.Core.Bool.{Bool, true, false, ◌&&◌}
 use mathlib.Core.List.Memᴰ.{append_left}
@@ -18,11 +19,12 @@ use Rattle.diagram.proofs.Keep.{keeps_trans, keeps_within, keeps_denotes}
 use Rattle.rows.specs.Used.{rows_of}
 use Rattle.rows.specs.Filled.{filled}
 use Rattle.table.specs.Make.{result}
-use Rattle.table.specs.declared.Made.TheVariants as made
+use Rattle.std.specs.Prelude.{Ok, Err}
+use Rattle.table.specs.Full.{rows_out}
 use Rattle.collect.specs.Lent.{live}
-use Rattle.counting.specs.Taken.{made_in, count_in}
+use Rattle.table.specs.declared.Full.{Full}
+use Rattle.counting.specs.Taken.{taken, ran_out, made_in, count_in}
 use Rattle.counting.specs.declared.Taken.{Taken}
-use Rattle.counting.specs.declared.Taken.TheVariants as taken
 use Rattle.book.specs.Bridge.{fn_of}
 use Rattle.book.proofs.Bridge.{fn_of-even}
 use Rattle.book.specs.Run.{needing_all, fit}
@@ -46,15 +48,16 @@ use Rattle.moments.specs.Sets.{Logs, LastPre, LastPost, set_of, needs_of, HasSet
 use Rattle.moments.proofs.BeforeLaws.{ran_fitting}
 
 -- what a chain's answer says
-module _ {n N : ℕ} {W X : View} {roots : List ℕ} {b : Bool} {F : Fn} {c : Count} {o : Taken} (r : Ran n N W X roots b F c o) where
-  abbrev Says : Taken → Type 0
+module _ {n N : ℕ} {W X : View} {roots : List ℕ} {b : Bool} {F : Fn} {c : Count} {o : Result Taken Full}
+    (r : Ran n N W X roots b F c o) where
+  abbrev Says : Result Taken Full → Type 0
   Says z = PairMatches n (rows_of X) b F c (result (made_in z)) (count_in z)
 
-  ran_made : {a : ℕ} {q : Count} → o ≡ taken.At a q → (b ≡ true) × Denotes (2 * n) (rows_of X) a F
+  ran_made : {a : ℕ} {q : Count} → o ≡ taken a q → (b ≡ true) × Denotes (2 * n) (rows_of X) a F
   ran_made {q = q} e = matches_at n (rows_of X) c q b (subst Says e r.evals.result)
 
-  ran_full : o ≡ taken.Full → b ≡ false
-  ran_full e = matches_full n (rows_of X) F c (count_in taken.Full) b (subst Says e r.evals.result)
+  ran_full : o ≡ ran_out → b ≡ false
+  ran_full e = matches_full n (rows_of X) F c (count_in ran_out) b (subst Says e r.evals.result)
 
 -- ---- needs
 
@@ -96,7 +99,7 @@ pub entry_at : {one two : List ℕ} → Logs one two → {i : ℕ} → i ≤ las
 entry_at g h = let l = g.first in let m = g.second in record { first = omega (arith, l, h); second = omega (arith, m, h) }
 
 -- the states that fit are the last set
-pub last-ends : {n N : ℕ} (limit : ℕ) {W X : View} {v : ℕ} (one two : List ℕ) {mask value : ℕ} {o : Taken}
+pub last-ends : {n N : ℕ} (limit : ℕ) {W X : View} {v : ℕ} (one two : List ℕ) {mask value : ℕ} {o : Result Taken Full}
     → Joins (moment_at one two (last_moment one)) mask value → FittingPost n N limit W X [] v mask value (uncounted N) o
     → LastPost n N limit W X v one two o
 last-ends {n} {N} limit {W} {X} {v} one two {mask} {value} {o} m f fs E h d =
@@ -114,7 +117,7 @@ module _ {n N limit : ℕ} {W : View} {t v : ℕ} {one two : List ℕ} {p : ℕ}
     logs = a.logs;
   }
 
-  module _ {X : View} {o : Taken} (f : LastPost n N limit W X v one two o) where
+  module _ {X : View} {o : Result Taken Full} (f : LastPost n N limit W X v one two o) where
     abbrev i : ℕ
     i = last_moment one
 
@@ -130,12 +133,12 @@ module _ {n N limit : ℕ} {W : View} {t v : ℕ} {one two : List ℕ} {p : ℕ}
       kept = subst (λ (xs : List ℕ). Keeps (rows_of W) (rows_of X) xs) (append-nil (filled W)) (ran_last S).evals.kept;
     }
 
-    pub last_made : {J x : ℕ} {q : Count} → 0 ≡ J → o ≡ taken.At x q → (S : Scene n W t v) → HasSet n limit W X t v S one two J i x
+    pub last_made : {J x : ℕ} {q : Count} → 0 ≡ J → o ≡ taken x q → (S : Scene n W t v) → HasSet n limit W X t v S one two J i x
     last_made {x = x} eJ e S =
         let w = ran_made (ran_last S) e in
         subst (λ (j : ℕ). HasSet n limit W X t v S one two j i x) eJ (record { steps = last-steps S; set_is = w.1; fits = w.0 })
 
-    pub last-full : o ≡ taken.Full → MakePost n limit W X t v one two p made.Full
+    pub last-full : o ≡ ran_out → MakePost n limit W X t v one two p (Err rows_out)
     last-full e S =
         let s = a.inside in
         is-full (last-steps S)
@@ -162,7 +165,7 @@ module _ {n N limit : ℕ} {W : View} {t v : ℕ} {one two : List ℕ} {p : ℕ}
   }
 
   module _ {b : ℕ} (eb : suc b ≡ i) {mask value : ℕ} (m : Joins (moment_at one two b) mask value)
-      {Y : View} {o : Taken} (f : BeforePost n N limit X Y t v x mask value o) where
+      {Y : View} {o : Result Taken Full} (f : BeforePost n N limit X Y t v x mask value o) where
     set_there : (S : Scene n W t v) → Denotes (2 * n) (rows_of X) x (fn_of n (set_of S one two j (suc b)))
     set_there S = subst (λ (i : ℕ). Denotes (2 * n) (rows_of X) x (fn_of n (set_of S one two j i))) (sym eb) (h S).set_is
 
@@ -195,19 +198,19 @@ module _ {n N limit : ℕ} {W : View} {t v : ℕ} {one two : List ℕ} {p : ℕ}
         ∙ ap (λ (z : Bool). z && fit limit (before_needs n S.fs S.R S.B (moment_at one two b) (set_of S one two j (suc b))))
         (needs-there S)
 
-    pub turn-made : {J y : ℕ} {q : Count} → suc j ≡ J → o ≡ taken.At y q → (S : Scene n W t v) → HasSet n limit W Y t v S one two J b y
+    pub turn-made : {J y : ℕ} {q : Count} → suc j ≡ J → o ≡ taken y q → (S : Scene n W t v) → HasSet n limit W Y t v S one two J b y
     turn-made {y = y} eJ e S =
         let w = ran_made (ran_before S) e in
         subst (λ (j : ℕ). HasSet n limit W Y t v S one two j b y) eJ
         (record { steps = steps_on S; set_is = w.1; fits = fit-by S ∙ w.0 })
 
-    pub turn-full : p ≤ b → i + j ≡ last_moment one → o ≡ taken.Full → MakePost n limit W Y t v one two p made.Full
+    pub turn-full : p ≤ b → i + j ≡ last_moment one → o ≡ ran_out → MakePost n limit W Y t v one two p (Err rows_out)
     turn-full l k e S =
         is-full (steps_on S)
         (full-before limit S one two (suc j) b (last_moment one - p) p l (omega (arith, l, k, eb)) (fit-by S ∙ ran_full (ran_before S) e))
 
   -- the set is reached
-  pub set-ends : i ≤ p → p ≤ i → i + j ≡ last_moment one → MakePost n limit W X t v one two p (made.At x)
+  pub set-ends : i ≤ p → p ≤ i → i + j ≡ last_moment one → MakePost n limit W X t v one two p (Ok x)
   set-ends l m k S =
       let a : i ≡ p = omega (arith, l, m) in
       let b : j ≡ last_moment one - p = omega (arith, k, l, m) in

@@ -1,7 +1,7 @@
 -- Two entries as one: a state that fits both has exactly the bits of both values under either mask, so these bits themselves fit both, or
 -- no state does. Assumes nothing.
 use mathlib.Core.Path.{◌≡◌, refl, sym, ap, ap₂, ◌∙◌, subst}
-use mathlib.Core.Bool.{Bool, true, false, not, ◌&&◌, ◌||◌}
+use mathlib.Core.Bool.{Bool, true, false, ◌&&◌, ◌||◌}
 use mathlib.Core.List.{List}
 use Prim.Native.Nat.{ℕ, zero, suc, ◌+◌, ◌*◌, ◌/◌, ◌^◌, ◌<◌}
 use native.Mathlib.Nat.{pow-succ'}
@@ -11,7 +11,6 @@ use lib.Dec.{T, eqb, eqb→eq, eqb_refl}
 use lib.ListN.{get_or}
 use Rattle.mucalculus.proofs.Sets.{and_in, and_out, false_of}
 use Rattle.mucalculus.specs.Means.{bit}
-use Rattle.rows.proofs.Says.{test_no, test_yes}
 use Rattle.book.specs.States.{one}
 use Rattle.logs.specs.Runs.{fits, moment_at}
 use Rattle.moments.specs.Moment.{Fitless, entries, Joins}
@@ -102,18 +101,18 @@ module _ (m v l w : ℕ) where
 
   module _ {mask value : ℕ} (g : Fitless mask value) {r : Bool} where
     -- where they do not, no state fits both
-    pub joins-not-one : r ≡ fits m v (bit_or v w) → not r ≡ true → Joins (entries m v l w) mask value
+    pub joins-not-one : r ≡ fits m v (bit_or v w) → r ≡ false → Joins (entries m v l w) mask value
     joins-not-one e t = record {
-      same = λ s. g.none s ∙ sym (false_of (fits m v s && fits l w s) (λ q. subst T (test_no e t) (one-fits s q)));
+      same = λ s. g.none s ∙ sym (false_of (fits m v s && fits l w s) (λ q. subst T (sym e ∙ t) (one-fits s q)));
     }
 
-    pub joins-not-two : r ≡ fits l w (bit_or v w) → not r ≡ true → Joins (entries m v l w) mask value
+    pub joins-not-two : r ≡ fits l w (bit_or v w) → r ≡ false → Joins (entries m v l w) mask value
     joins-not-two e t = record {
-      same = λ s. g.none s ∙ sym (false_of (fits m v s && fits l w s) (λ q. subst T (test_no e t) (two_fits s q)));
+      same = λ s. g.none s ∙ sym (false_of (fits m v s && fits l w s) (λ q. subst T (sym e ∙ t) (two_fits s q)));
     }
 
   -- where they do, they are one entry
-  pub joins-both : {r q : Bool} → r ≡ fits m v (bit_or v w) → not r ≡ false → q ≡ fits l w (bit_or v w) → not q ≡ false
+  pub joins-both : {r q : Bool} → r ≡ fits m v (bit_or v w) → r ≡ true → q ≡ fits l w (bit_or v w) → q ≡ true
       → {mask value : ℕ} → mask ≡ bit_or m l → value ≡ bit_or v w → Joins (entries m v l w) mask value
   joins-both e t f u a b = record {
     same = λ s. ap₂ (λ (x y : ℕ). fits x y s) a b
@@ -125,8 +124,8 @@ module _ (m v l w : ℕ) where
       to s h =
           let is = eqb→eq (bit_and s (bit_or m l)) (bit_or v w) h in
           and_in (fits m v s) (fits l w s)
-          (subst (λ (x : ℕ). T (eqb x v)) (ap (λ (x : ℕ). bit_and x m) (sym is) ∙ under_one s m l) (subst T (sym (test_yes e t)) tt))
-          (subst (λ (x : ℕ). T (eqb x w)) (ap (λ (x : ℕ). bit_and x l) (sym is) ∙ under_two s m l) (subst T (sym (test_yes f u)) tt))
+          (subst (λ (x : ℕ). T (eqb x v)) (ap (λ (x : ℕ). bit_and x m) (sym is) ∙ under_one s m l) (subst T (sym t ∙ e) tt))
+          (subst (λ (x : ℕ). T (eqb x w)) (ap (λ (x : ℕ). bit_and x l) (sym is) ∙ under_two s m l) (subst T (sym u ∙ f) tt))
 
 -- the entries of the lists
 pub joins_at : (first second : List ℕ) (i : ℕ) {mask value : ℕ}

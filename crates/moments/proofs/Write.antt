@@ -10,8 +10,9 @@ use lib.ListN.{length, set}
 use Rattle.mucalculus.specs.Sets.{mem}
 use Rattle.mucalculus.proofs.Sets.{true_of}
 use Rattle.layout.specs.View.{View}
-use Rattle.table.specs.declared.Made.{Made}
-use Rattle.table.specs.declared.Made.TheVariants as made
+use Rattle.std.specs.Prelude.{Result, Ok, Err}
+use Rattle.table.specs.declared.Full.{Full}
+use Rattle.table.specs.Full.{rows_out}
 use Rattle.book.specs.Run.{fit}
 use Rattle.paths.specs.Runs.{toward}
 use Rattle.paths.proofs.First.{Onto}
@@ -28,20 +29,21 @@ use Rattle.moments.specs.Sets.{set_of, needs_of, HasSet, MakePre, Ends, is_made,
 use Rattle.moments.specs.Write.{Onward, rest_of, WritePre, WritePost}
 
 -- a set that is made has its arrow
-pub set-made : {n limit : ℕ} {W X : View} {t v : ℕ} {S : Scene n W t v} {one two : List ℕ} {j i : ℕ} {o : Made} {x : ℕ}
-    → Ends n limit W X t v S one two j i o → o ≡ made.At x → HasSet n limit W X t v S one two j i x
-set-made {n} {limit} {W} {X} {t} {v} {S} {one} {two} {j} {i} {o} {x} d e = go (subst (λ (o : Made). Ends n limit W X t v S one two j i o)
-    e d)
+pub set-made : {n limit : ℕ} {W X : View} {t v : ℕ} {S : Scene n W t v} {one two : List ℕ} {j i : ℕ} {o : Result ℕ Full} {x : ℕ}
+    → Ends n limit W X t v S one two j i o → o ≡ Ok x → HasSet n limit W X t v S one two j i x
+set-made {n} {limit} {W} {X} {t} {v} {S} {one} {two} {j} {i} {o} {x} d e =
+    go (subst (λ (o : Result ℕ Full). Ends n limit W X t v S one two j i o) e d)
   where
-    go : Ends n limit W X t v S one two j i (made.At x) → HasSet n limit W X t v S one two j i x
+    go : Ends n limit W X t v S one two j i (Ok x) → HasSet n limit W X t v S one two j i x
     go (is_made h) = h
 
 -- and one that is full does not fit
-pub never-full : {n limit : ℕ} {W X : View} {t v : ℕ} {S : Scene n W t v} {one two : List ℕ} {j i : ℕ} {o : Made}
-    → Ends n limit W X t v S one two j i o → o ≡ made.Full → fit limit (needs_of S one two j i) ≡ false
-never-full {n} {limit} {W} {X} {t} {v} {S} {one} {two} {j} {i} {o} d e = go (subst (λ (o : Made). Ends n limit W X t v S one two j i o) e d)
+pub never-full : {n limit : ℕ} {W X : View} {t v : ℕ} {S : Scene n W t v} {one two : List ℕ} {j i : ℕ} {o : Result ℕ Full}
+    → Ends n limit W X t v S one two j i o → o ≡ Err rows_out → fit limit (needs_of S one two j i) ≡ false
+never-full {n} {limit} {W} {X} {t} {v} {S} {one} {two} {j} {i} {o} d e =
+    go (subst (λ (o : Result ℕ Full). Ends n limit W X t v S one two j i o) e d)
   where
-    go : Ends n limit W X t v S one two j i made.Full → fit limit (needs_of S one two j i) ≡ false
+    go : Ends n limit W X t v S one two j i (Err rows_out) → fit limit (needs_of S one two j i) ≡ false
     go (is-full s f) = f
 
 -- where the loop stands: s is the state of place i, with j places after it, and the rest goes from the next place on
@@ -85,7 +87,7 @@ module _ {n N limit : ℕ} {W : View} {t v : ℕ} {one two : List ℕ} {first : 
       inside = omega (arith, e, sum, eJ);
     }
 
-    module _ {b : ℕ} (eb : b ≡ suc i) {Y : View} {o : Made} (f : MakePost n limit X Y t v one two b o) where
+    module _ {b : ℕ} (eb : b ≡ suc i) {Y : View} {o : Result ℕ Full} (f : MakePost n limit X Y t v one two b o) where
       again : (S : Scene n W t v) (r : Onward limit S one two (last_moment one) 0 first)
           → Ends n limit X Y t v (scene-later p.start (q S r).steps S) one two j (suc i) o
       again S r =
@@ -101,11 +103,11 @@ module _ {n N limit : ℕ} {W : View} {t v : ℕ} {one two : List ℕ} {first : 
           (made-less n limit S.fs S.R S.B (moment_at one two) j i (subst T (sym (q S r).ready.0) tt))
 
       -- it is never full
-      pub write_never : o ≡ made.Full → ⊥
+      pub write_never : o ≡ Err rows_out → ⊥
       write_never e =
           true≢false (sym (fits_again p.scene p.ready) ∙ never-full (again p.scene p.ready) e)
 
-      module _ {x : ℕ} (ex : o ≡ made.At x) where
+      module _ {x : ℕ} (ex : o ≡ Ok x) where
         there : (S : Scene n W t v) (r : Onward limit S one two (last_moment one) 0 first)
             → HasSet n limit X Y t v (scene-later p.start (q S r).steps S) one two j (suc i) x
         there S r = set-made (again S r) ex

@@ -1,15 +1,16 @@
 -- What the functions ask of the words, the logs and the list and promise of them, by name. Assumes nothing.
-use Rattle.std.specs.Prelude.{List, ℕ, ◌*◌, ◌≤◌}
+use Rattle.std.specs.Prelude.{List, ℕ, ◌*◌, ◌≤◌, Result}
+use Rattle.layout.specs.declared.Refusal.{Refusal}
 use Rattle.accounts.specs.declared.Count.{Count}
 use Rattle.steps.specs.declared.Step.{Step}
+use Rattle.table.specs.declared.Full.{Full}
 use Rattle.counting.specs.declared.Taken.{Taken}
 use Rattle.counting.specs.Posts.{TakePre, TakenIn}
-use Rattle.table.specs.declared.Made.{Made}
+use Rattle.table.specs.declared.Full.{Full}
 use Rattle.modal.specs.declared.Limits.{Limits}
 use Rattle.modal.specs.Posts.{view_in, Counted}
 use Rattle.layers.specs.Next.{NextPre}
 use Rattle.moments.specs.declared.Entry.{Entry}
-use Rattle.moments.specs.declared.Logged.{Logged}
 use Rattle.moments.specs.Fitting.{FittingPre, FittingPost}
 use Rattle.moments.specs.Before.{BeforePost}
 use Rattle.moments.specs.Sets.{LastPre, LastPost, MakePre, MakePost}
@@ -45,28 +46,28 @@ module _ (l : Limits) (words counts : List ℕ) where
 -- after it
 module _ (l : Limits) (before after : List ℕ) where
   -- a step's answer, its need counted
-  abbrev pub StepGives : (counts roots : List ℕ) (step : Step) (count : Count) (taken : Taken) → Type 0
+  abbrev pub StepGives : (counts roots : List ℕ) (step : Step) (count : Count) (taken : Result Taken Full) → Type 0
   StepGives counts roots step count taken = TakenIn (2 * l.bits) l.rows l.limit before after roots counts step count taken
 
   -- the states that fit and exist
-  abbrev pub FittingGives : (counts roots : List ℕ) (valid : ℕ) (e : Entry) (count : Count) (taken : Taken) → Type 0
+  abbrev pub FittingGives : (counts roots : List ℕ) (valid : ℕ) (e : Entry) (count : Count) (taken : Result Taken Full) → Type 0
   FittingGives counts roots valid e count taken =
       Counted l after counts
       (FittingPost l.bits l.rows l.limit (view_in l before) (view_in l after) roots valid e.mask e.value count taken)
 
   -- the set of the moment before
-  abbrev pub BeforeGives : (counts : List ℕ) (relation valid later : ℕ) (e : Entry) (taken : Taken) → Type 0
+  abbrev pub BeforeGives : (counts : List ℕ) (relation valid later : ℕ) (e : Entry) (taken : Result Taken Full) → Type 0
   BeforeGives counts relation valid later e taken =
       Counted l after counts
       (BeforePost l.bits l.rows l.limit (view_in l before) (view_in l after) relation valid later e.mask e.value taken)
 
   -- the set of the last moment
-  abbrev pub LastGives : (counts : List ℕ) (valid : ℕ) (one two : List ℕ) (taken : Taken) → Type 0
+  abbrev pub LastGives : (counts : List ℕ) (valid : ℕ) (one two : List ℕ) (taken : Result Taken Full) → Type 0
   LastGives counts valid one two taken =
       Counted l after counts (LastPost l.bits l.rows l.limit (view_in l before) (view_in l after) valid one two taken)
 
   -- the set of a moment
-  abbrev pub MakeGives : (counts : List ℕ) (relation valid : ℕ) (one two : List ℕ) (at : ℕ) (made : Made) → Type 0
+  abbrev pub MakeGives : (counts : List ℕ) (relation valid : ℕ) (one two : List ℕ) (at : ℕ) (made : Result ℕ Full) → Type 0
   MakeGives counts relation valid one two at made =
       Counted l after counts (MakePost l.bits l.limit (view_in l before) (view_in l after) relation valid one two at made)
 
@@ -76,6 +77,6 @@ module _ (l : Limits) (before after : List ℕ) where
       WritePost l.bits l.limit (view_in l before) (view_in l after) relation valid one two first old new
 
   -- the run, written, or why it is not
-  abbrev pub FindGives : (relation valid : ℕ) (one two old new : List ℕ) (logged : Logged) → Type 0
+  abbrev pub FindGives : (relation valid : ℕ) (one two old new : List ℕ) (logged : Result (Unit {0}) Refusal) → Type 0
   FindGives relation valid one two old new logged =
       FindPost l.bits l.limit (view_in l before) (view_in l after) relation valid one two old new logged

@@ -1,14 +1,15 @@
 -- Where the making of sets stands, and what it ends with. What the arrows stand for is request 3's scene, with V in the place of its set:
 -- the functions that are held, the pairs of relation t and the states of V. Assumes nothing.
-use Rattle.std.specs.Prelude.{◌≡◌, Bool, true, false, List, [], ℕ, suc, ◌-◌, ◌*◌, ◌^◌, ◌≤◌, ◌<◌, length}
+use Rattle.std.specs.Prelude.{◌≡◌, Bool, true, false, List, [], ℕ, suc, ◌-◌, ◌*◌, ◌^◌, ◌≤◌, ◌<◌, length, Result, Ok, Err}
 use Rattle.layout.specs.View.{View}
 use Rattle.diagram.specs.Level.{Fn}
 use Rattle.diagram.specs.Post.{Denotes}
 use Rattle.rows.specs.Used.{rows_of}
 use Rattle.collect.specs.Lent.{live}
+use Rattle.table.specs.declared.Full.{Full}
 use Rattle.counting.specs.declared.Taken.{Taken}
-use Rattle.table.specs.declared.Made.{Made}
-use Rattle.table.specs.declared.Made.TheVariants as made
+use Rattle.table.specs.declared.Full.{Full}
+use Rattle.table.specs.Full.{rows_out}
 use Rattle.book.specs.Bridge.{fn_of}
 use Rattle.book.specs.Run.{needing_all, fit}
 use Rattle.book.specs.Held.{Held}
@@ -33,7 +34,7 @@ pub record LastPre (n N limit : ℕ) (W : View) (v : ℕ) (one two : List ℕ) :
 
 -- whatever functions registers and relations hold, and whatever set V is: the states that exist and fit both last entries, exactly where
 -- their needs fit
-abbrev pub LastPost : ℕ → ℕ → ℕ → View → View → ℕ → List ℕ → List ℕ → Taken → Type 0
+abbrev pub LastPost : ℕ → ℕ → ℕ → View → View → ℕ → List ℕ → List ℕ → Result Taken Full → Type 0
 LastPost n N limit W X v one two o =
     (fs : List Fn) (E : List Bool) → Held (2 * n) (rows_of W) (live W []) fs → Denotes (2 * n) (rows_of W) v (fn_of n E)
     → Ran n N W X (live W []) (fit limit (fit_needs n fs E (moment_at one two (last_moment one))))
@@ -61,10 +62,10 @@ pub record MakePre (n N limit : ℕ) (W : View) (t v : ℕ) (one two : List ℕ)
   pub inside : at ≤ last_moment one
 
 -- set i is made, or its needs do not fit
-pub data Ends (n limit : ℕ) (W X : View) (t v : ℕ) (S : Scene n W t v) (one two : List ℕ) (j i : ℕ) : Made → Type 0 where
-  is_made : {x : ℕ} → HasSet n limit W X t v S one two j i x → Ends n limit W X t v S one two j i (made.At x)
-  is-full : Steps n W X → fit limit (needs_of S one two j i) ≡ false → Ends n limit W X t v S one two j i made.Full
+pub data Ends (n limit : ℕ) (W X : View) (t v : ℕ) (S : Scene n W t v) (one two : List ℕ) (j i : ℕ) : Result ℕ Full → Type 0 where
+  is_made : {x : ℕ} → HasSet n limit W X t v S one two j i x → Ends n limit W X t v S one two j i (Ok x)
+  is-full : Steps n W X → fit limit (needs_of S one two j i) ≡ false → Ends n limit W X t v S one two j i (Err rows_out)
 
-abbrev pub MakePost : ℕ → ℕ → View → View → ℕ → ℕ → List ℕ → List ℕ → ℕ → Made → Type 0
+abbrev pub MakePost : ℕ → ℕ → View → View → ℕ → ℕ → List ℕ → List ℕ → ℕ → Result ℕ Full → Type 0
 MakePost n limit W X t v one two at o =
     (S : Scene n W t v) → Ends n limit W X t v S one two (last_moment one - at) at o

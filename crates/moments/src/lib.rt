@@ -15,7 +15,7 @@ use modal::{Limits, diamond};
 use routes::write_next;
 use seek::least_common;
 use steps::Step;
-use table::Made;
+use table::Full;
 
 // An entry of a log, or what both logs' entries for a moment say together: a state fits where its masked bits equal the value.
 #[derive(Clone, Copy)]
@@ -31,20 +31,6 @@ impl Entry {
     {
         Entry { mask: 0, value: 1 }
     }
-}
-
-// What the call for a run that fits two logs answers.
-#[derive(Clone, Copy)]
-pub enum Logged {
-    Done,
-    Refused(Refusal),
-}
-
-// A 16-bit number as one of 32 bits.
-fn wide(x: u16) -> u32
-    ensures { result ≡ x }
-{
-    x as u32
 }
 
 // Whether a state fits an entry of a log: its masked bits equal the value.
@@ -67,8 +53,8 @@ fn joined(mask: u16, value: u16, mask2: u16, value2: u16) -> Entry
         return Entry::never();
     }
     Entry {
-        mask: wide(mask | mask2),
-        value: wide(both),
+        mask: u32::from(mask | mask2),
+        value: u32::from(both),
     }
 }
 
@@ -89,7 +75,7 @@ fn take_step(
     roots: &[u32],
     step: Step,
     count: Count,
-) -> Taken
+) -> Result<Taken, Full>
     requires { StepAsks limits words.old counts.old roots.now step }
     ensures { StepGives limits words.old words.new counts.new roots.now step count result }
 {
@@ -114,17 +100,15 @@ fn fitting(
     valid: u32,
     joint: Entry,
     count: Count,
-) -> Taken
+) -> Result<Taken, Full>
     requires { FittingAsks limits words.old counts.old roots.now valid }
     ensures { FittingGives limits words.old words.new counts.new roots.now
         valid joint count result }
 {
     let cube = Step::Cube(joint.value, joint.mask ^ joint.value);
-    let Taken::At { arrow: f, count: q } = take_step(words, counts, limits, roots, cube, count)
-    else {
-        return Taken::Full;
-    };
-    take_step(words, counts, limits, roots, Step::And(f, valid), q)
+    let fit = take_step(words, counts, limits, roots, cube, count)?;
+    let step = Step::And(fit.arrow, valid);
+    take_step(words, counts, limits, roots, step, fit.count)
 }
 
 // The set of the moment before: diamond of the later one, then the states that fit, then AND of both. Only the later set is live, until
@@ -137,7 +121,7 @@ fn before(
     valid: u32,
     later: u32,
     joint: Entry,
-) -> Taken
+) -> Result<Taken, Full>
     requires { BeforeAsks limits words.old counts.old relation valid later }
     ensures { BeforeGives limits words.old words.new counts.new relation valid later joint result }
 {
@@ -146,17 +130,11 @@ fn before(
         peak: limits.rows,
     };
     let roots = [later];
-    let Taken::At { arrow: d, count: p } = diamond(
-        words, counts, limits, &roots, relation, later, uncounted,
-    ) else {
-        return Taken::Full;
-    };
-    let both = [later, d];
-    let Taken::At { arrow: f, count: q } = fitting(words, counts, limits, &both, valid, joint, p)
-    else {
-        return Taken::Full;
-    };
-    take_step(words, counts, limits, &roots, Step::And(d, f), q)
+    let from = diamond(words, counts, limits, &roots, relation, later, uncounted)?;
+    let both = [later, from.arrow];
+    let fit = fitting(words, counts, limits, &both, valid, joint, from.count)?;
+    let step = Step::And(from.arrow, fit.arrow);
+    take_step(words, counts, limits, &roots, step, fit.count)
 }
 
 // The set of the last moment: the states that fit. Nothing is counted, as in `before`.
@@ -167,7 +145,7 @@ fn last_set(
     valid: u32,
     one: &[u16],
     two: &[u16],
-) -> Taken
+) -> Result<Taken, Full>
     requires { LastAsks limits words.old counts.old valid one.now two.now }
     ensures { LastGives limits words.old words.new counts.new valid
         one.now two.now result }
@@ -191,26 +169,19 @@ fn make_set(
     one: &[u16],
     two: &[u16],
     at: usize,
-) -> Made
+) -> Result<u32, Full>
     requires { MakeAsks limits words.old counts.old relation valid one.now two.now at }
     ensures { MakeGives limits words.old words.new counts.new relation valid
         one.now two.now at result }
 {
-    let Taken::At { arrow: f, count: _ } = last_set(words, counts, limits, valid, one, two) else {
-        return Made::Full;
-    };
-    let mut i = one.len() / 2 - 1;
-    let mut x = f;
-    while at < i {
-        i -= 1;
+    let last = last_set(words, counts, limits, valid, one, two)?;
+    let mut x = last.arrow;
+    for i in (at..one.len() / 2 - 1).rev() {
         let m = moment_at(one, two, i);
-        let Taken::At { arrow: y, count: _ } = before(words, counts, limits, relation, valid, x, m)
-        else {
-            return Made::Full;
-        };
-        x = y;
+        let set = before(words, counts, limits, relation, valid, x, m)?;
+        x = set.arrow;
     }
-    Made::At(x)
+    Ok(x)
 }
 
 // Writes the states after the first one: at each place the least next state in its set, which is made again.
@@ -229,13 +200,10 @@ fn write_on(
     ensures { WriteGives limits words.old words.new relation valid one.now two.now
         first list.old list.new }
 {
-    let last = one.len() / 2 - 1;
     let mut s = first;
-    let mut i = 0;
-    while i < last {
-        i += 1;
+    for i in 1..one.len() / 2 {
         // Never full: what fitted once fits again.
-        let Made::At(x) = make_set(words, counts, limits, relation, valid, one, two, i) else {
+        let Ok(x) = make_set(words, counts, limits, relation, valid, one, two, i) else {
             return;
         };
         s = write_next(words, list, limits, relation, s, x, i);
@@ -252,23 +220,21 @@ pub fn find_logged(
     valid: u32,
     one: &[u16],
     two: &[u16],
-) -> Logged
+) -> Result<(), Refusal>
     requires { FindAsks limits words.old counts.old relation valid one.now two.now }
     ensures { FindGives limits words.old words.new relation valid one.now two.now
         list.old list.new result }
 {
-    let Made::At(x) = make_set(words, counts, limits, relation, valid, one, two, 0) else {
-        return Logged::Refused(Refusal::Full);
-    };
+    let x = make_set(words, counts, limits, relation, valid, one, two, 0)?;
     let states = 1u32 << limits.bits;
     let s = least_common(words, limits.rows, limits.bits, x, x);
     if states <= s {
-        return Logged::Refused(Refusal::NoRun);
+        return Err(Refusal::NoRun);
     }
     if list.len() < one.len() / 2 {
-        return Logged::Refused(Refusal::Short);
+        return Err(Refusal::Short);
     }
     list[0] = s as u16;
     write_on(words, counts, list, limits, relation, valid, one, two, s);
-    Logged::Done
+    Ok(())
 }

@@ -17,9 +17,8 @@ use Rattle.layout.specs.View.{View}
 use Rattle.layout.specs.Arrows.{is_row, row_of}
 use Rattle.layout.proofs.Arrows.{row_is, is_row-leads}
 use Rattle.rows.specs.Used.{rows_of}
-use Rattle.table.specs.Code.{made_of}
-use Rattle.table.specs.declared.Found.{Found}
-use Rattle.table.specs.declared.Found.TheVariants as find
+use Rattle.table.specs.declared.Full.{Full}
+use Rattle.std.specs.Prelude.{Option, Some, None, Result, Ok, Err}
 use Rattle.memory.specs.Memo.{held, RowPost}
 use Rattle.memory.specs.Store.{keep_row}
 use Rattle.operations.specs.Work.{Ready, Known, Worked}
@@ -27,44 +26,38 @@ use Rattle.operations.proofs.Work.{known_at, worked_cong, worked_not, worked_not
 use Rattle.operations.specs.Open.{RowIs}
 use Rattle.operations.proofs.Open.{RowAt, depth}
 use Rattle.operations.proofs.Rows.{row-known, row_kept}
-use Rattle.operations.specs.Carried.{CarriedMade, stays, turned, carried_found}
-
-pub carried-at : {f : Found} {x y : ℕ} (b : Bool) → f ≡ find.At x → y ≡ carry b x → find.At y ≡ carried_found b f
-carried-at b e q = ap find.At q ∙ ap (carried_found b) (sym e)
+use Rattle.operations.specs.Carried.{CarriedMade, carried_found}
 
 -- a promise for F is one for G, which is F turned by b, where b is carried to the answer
-pub worked_carried : {m N limit : ℕ} {W X : View} {c r : ℕ} {F G : Fn} (b : Bool) → ((v : Val) → turn b (F v) ≡ G v)
-    → Worked m N limit W X (made_of c) F → CarriedMade b c r → Worked m N limit W X (made_of r) G
-worked_carried {m} {N} {limit} {W} {X} {F = F} false same w (stays e q) =
-    worked_cong same (subst (λ (z : ℕ). Worked m N limit W X (made_of z) F) (e ∙ sym q) w)
-worked_carried {m} {N} {limit} {W} {X} {F = F} false same w (turned n q) =
-    worked_cong same (subst (λ (z : ℕ). Worked m N limit W X (made_of z) F) (sym q) w)
-worked_carried {m} {N} {limit} {W} {X} {F = F} true same w (stays e q) =
-    worked_cong same (subst (λ (z : ℕ). Worked m N limit W X (made_of z) (λ v. turn true (F v))) (sym q) (worked_not_full w e))
-worked_carried true same w (turned n q) = worked_cong same (worked_not w n q)
+pub worked_carried : {m N limit : ℕ} {W X : View} {r : Result ℕ Full} {F G : Fn} (b : Bool) (c : Result ℕ Full)
+    → ((v : Val) → turn b (F v) ≡ G v) → Worked m N limit W X c F → CarriedMade b c r → Worked m N limit W X r G
+worked_carried false (Ok x) same w e = rw e (worked_cong same w)
+worked_carried false (Err _) same w e = rw e (worked_cong same w)
+worked_carried true (Ok x) same w e = rw e (worked_cong same (worked_not w refl))
+worked_carried true (Err _) same w e = rw e (worked_cong same (worked_not_full w))
 
 pub denotes-carried : {m : ℕ} {rows : Rows} {x : ℕ} {F G : Fn} (b : Bool) → ((v : Val) → turn b (F v) ≡ G v) → Denotes m rows x F
     → Denotes m rows (carry b x) G
 denotes-carried false same d = record { arrow = d.arrow; same = λ v. d.same v ∙ same v }
 denotes-carried true same d = let t = denotes-flip d in record { arrow = t.arrow; same = λ v. t.same v ∙ same v }
 
-known_carried : {m : ℕ} {W : View} {g : Found} {F G : Fn} {R : Type 0} (b : Bool) (f : Found) → ((v : Val) → turn b (F v) ≡ G v)
+known_carried : {m : ℕ} {W : View} {g : Option ℕ} {F G : Fn} {R : Type 0} (b : Bool) (f : Option ℕ) → ((v : Val) → turn b (F v) ≡ G v)
     → Known m W f F R → g ≡ carried_found b f → Known m W g G R
-known_carried {m} {W} {G = G} {R = R} b (find.At x) same k e =
-    subst (λ (h : Found). Known m W h G R) (sym e) (known_at (denotes-carried b same (k.at x refl)))
-known_carried {m} {W} {G = G} {R = R} b find.Nothing same k e =
-    subst (λ (h : Found). Known m W h G R) (sym e) (record {
+known_carried {m} {W} {G = G} {R = R} b (Some x) same k e =
+    subst (λ (h : Option ℕ). Known m W h G R) (sym e) (known_at (denotes-carried b same (k.at x refl)))
+known_carried {m} {W} {G = G} {R = R} b None same k e =
+    subst (λ (h : Option ℕ). Known m W h G R) (sym e) (record {
       at = λ v z. absurd (let q : ◌≡◌ {A = ℕ} 0 1 = cc in omega arith);
       none = λ z. k.none refl;
     })
 
 -- what a row remembers for the arrow without a NOT: 0 carries none either
-plain-post : (W : View) (i kind : ℕ) (f : Found) → RowPost W 0 i kind f → RowPost W (row i) i kind f
-plain-post W i kind (find.At v) q = (q.0, ap (λ (b : Bool). held b (W.cell i MEMO_KEY) (W.cell i MEMO_VALUE)) (row_plain i) ∙ q.1)
-plain-post W i kind find.Nothing q = tt
+plain-post : (W : View) (i kind : ℕ) (f : Option ℕ) → RowPost W 0 i kind f → RowPost W (row i) i kind f
+plain-post W i kind (Some v) q = (q.0, ap (λ (b : Bool). held b (W.cell i MEMO_KEY) (W.cell i MEMO_VALUE)) (row_plain i) ∙ q.1)
+plain-post W i kind None q = tt
 
-pub shift_remembered : {m N : ℕ} {W : View} {i : ℕ} {g : Found} {R : Type 0} (a : ℕ) (f : Found) → Ready m N 0 W → RowAt (rows_of W) a i
-    → R → RowPost W 0 i 1 f → g ≡ carried_found (marked a) f → Known m W g (shift_f (den m (rows_of W) a)) R
+pub shift_remembered : {m N : ℕ} {W : View} {i : ℕ} {g : Option ℕ} {R : Type 0} (a : ℕ) (f : Option ℕ) → Ready m N 0 W
+    → RowAt (rows_of W) a i → R → RowPost W 0 i 1 f → g ≡ carried_found (marked a) f → Known m W g (shift_f (den m (rows_of W) a)) R
 shift_remembered {m} {W = W} {i = i} a f r o x p e =
     known_carried (marked a) f (λ v. sym (den-leads m (rows_of W) a i o.leads (λ l. v (suc l))))
     (row-known r {a = row i} 1 (omega arith) (record { leads = row-leads i; used = o.used }) x (plain-post W i 1 f p)) e
@@ -95,10 +88,10 @@ module _ {p : ℕ} (a : ℕ) (e : p ≡ carry (marked a) a) where
     plain_reads on v w h = plain-den m (rows_of W) v ∙ ap (turn (marked a)) (on v w h) ∙ sym (plain-den m (rows_of W) w)
 
   -- SHIFT of a, from SHIFT of p
-  pub shift-carried : {m N limit : ℕ} {W X : View} {c r : ℕ} → Worked m N limit W X (made_of c) (shift_f (den m (rows_of W) p))
-      → CarriedMade (marked a) c r → Worked m N limit W X (made_of r) (shift_f (den m (rows_of W) a))
-  shift-carried {m} {W = W} w k =
-      worked_carried (marked a) (λ v. let u : Val = λ l. v (suc l) in
+  pub shift-carried : {m N limit : ℕ} {W X : View} {c r : Result ℕ Full} → Worked m N limit W X c (shift_f (den m (rows_of W) p))
+      → CarriedMade (marked a) c r → Worked m N limit W X r (shift_f (den m (rows_of W) a))
+  shift-carried {m} {W = W} {c = c} w k =
+      worked_carried (marked a) c (λ v. let u : Val = λ l. v (suc l) in
       ap (turn (marked a)) (plain-den m (rows_of W) u) ∙ turn-back (marked a) (den m (rows_of W) a u)) w k
 
 -- the words of a row, and what it remembers, for an arrow without a NOT
@@ -109,11 +102,12 @@ plain-is {rows} {i} a e n = record {
   high = n.high ∙ ap (λ (b : Bool). carry b (child rows i true)) (sym e);
 }
 
-keep-plain : (X : View) (a i kind c : ℕ) → marked a ≡ false → keep_row X 0 i kind c ≡ keep_row X a i kind c
+keep-plain : (X : View) (a i kind : ℕ) (c : Result ℕ Full) → marked a ≡ false → keep_row X 0 i kind c ≡ keep_row X a i kind c
 unfolding keep_row
-keep-plain X a i kind c e = rw e
+keep-plain X a i kind (Ok x) e = rw e
+keep-plain X a i kind (Err _) e = refl
 
-pub plain-kept : {m N limit : ℕ} {W X Y : View} {a i : ℕ} (r : Ready m N limit W) (c : ℕ) → marked a ≡ false
-    → RowAt (rows_of W) a i → Worked m N limit W X (made_of c) (shift_f (den m (rows_of W) a)) → Y ≡ keep_row X 0 i 1 c
-    → Worked m N limit W Y (made_of c) (shift_f (den m (rows_of W) a))
+pub plain-kept : {m N limit : ℕ} {W X Y : View} {a i : ℕ} (r : Ready m N limit W) (c : Result ℕ Full) → marked a ≡ false
+    → RowAt (rows_of W) a i → Worked m N limit W X c (shift_f (den m (rows_of W) a)) → Y ≡ keep_row X 0 i 1 c
+    → Worked m N limit W Y c (shift_f (den m (rows_of W) a))
 plain-kept {X = X} {a = a} {i = i} r c e o w q = row_kept r 1 c (omega arith) (omega arith) o w (q ∙ keep-plain X a i 1 c e)

@@ -4,7 +4,6 @@ use mathlib.Core.Bool.{true, false, ◌||◌}
 use mathlib.Core.Logic.{◌≢◌}
 use Prim.Native.Nat.{ℕ, suc, ◌%◌, ◌<◌}
 use native.Mathlib.Omega.{arith}
-use native.Mathlib.Decide.{ℕ_discrete}
 use borrow.Author.Tests.{eq-eqb}
 use Rattle.diagram.specs.Level.{Val, Fn}
 use Rattle.diagram.proofs.Level.{Splits, Reads}
@@ -22,13 +21,9 @@ use Rattle.layout.specs.Arrows.{is_row}
 use Rattle.layout.proofs.Arrows.{no_row-leads}
 use Rattle.rows.specs.Used.{rows_of}
 use Rattle.rows.proofs.Alike.{alike_good}
-use Rattle.table.specs.Code.{FULL, made_of}
-use Rattle.table.proofs.CodeLaws.{code_at, code_is}
-use Rattle.table.specs.Make.{MakePre, MakePost, result}
-use Rattle.table.specs.declared.Made.{Made}
-use Rattle.table.specs.declared.Made.TheVariants as answer
-use Rattle.table.specs.declared.Found.{Found}
-use Rattle.table.specs.declared.Found.TheVariants as find
+use Rattle.table.specs.Make.{MakePre, MakePost}
+use Rattle.std.specs.Prelude.{Option, Some, Result, Ok, Err}
+use Rattle.table.specs.declared.Full.{Full}
 use Rattle.memory.specs.Frame.{MemoFrame}
 use Rattle.memory.proofs.Frame.{rows_same, memo_alike}
 use Rattle.memory.specs.Memo.{ODD, RightFor, RowPost}
@@ -45,8 +40,12 @@ module _ {m N limit : ℕ} {W : View} (r : Ready m N limit W) where
   grown-none = record { good = r.good; memory = r.memory; frame = op_refl W; kept = extends_refl (rows_of W) }
 
   -- an arrow that is there already
-  pub odd-there : {a v : ℕ} {f : Found} → f ≡ find.At v → OddKnown m W a f → OddPost m W W a v
-  odd-there {v = v} e k = record { grown = grown-none; result = λ n. k.at v e; covered = λ n. k.covered v e }
+  pub odd-there : {a v : ℕ} {f : Option ℕ} → f ≡ Some v → OddKnown m W a f → OddPost m W W a (Ok v)
+  odd-there {v = v} e k = record {
+    grown = grown-none;
+    result = λ x q. k.at x (let z : v ≡ x = cc in e ∙ ap Some z);
+    covered = λ x q. k.covered v e;
+  }
 
   pub ready-grown : {X : View} → Grown m W X → Ready m N limit X
   ready-grown g = ready-frame r g.frame g.good g.memory
@@ -55,11 +54,11 @@ pub grown_trans : {m : ℕ} {U W X : View} → Grown m U W → Grown m W X → G
 grown_trans p q =
     record { good = q.good; memory = q.memory; frame = op_trans p.frame q.frame; kept = extends_trans p.kept q.kept }
 
-pub grown_worked : {m N limit : ℕ} {W X : View} {o : Made} {F : Fn} → Worked m N limit W X o F → Grown m W X
+pub grown_worked : {m N limit : ℕ} {W X : View} {o : Result ℕ Full} {F : Fn} → Worked m N limit W X o F → Grown m W X
 grown_worked w = record { good = w.good; memory = w.memory; frame = w.frame; kept = w.post.kept }
 
 -- the constants
-pub odd_constant : {m : ℕ} {W : View} (a : ℕ) → is_row a ≡ false → OddKnown m W a (find.At a)
+pub odd_constant : {m : ℕ} {W : View} (a : ℕ) → is_row a ≡ false → OddKnown m W a (Some a)
 odd_constant {m} {W} a h = record {
   at = λ v e. let z : a ≡ v = cc in
       subst (λ (x : ℕ). Denotes m (rows_of W) x (odd_f (den m (rows_of W) a))) z (odd-of-constant m (rows_of W) a (no_row-leads a h));
@@ -68,7 +67,7 @@ odd_constant {m} {W} a h = record {
 }
 
 -- what row i remembers for a
-pub odd_remembered : {m N limit : ℕ} {W : View} {a i : ℕ} {f : Found} → Ready m N limit W → RowAt (rows_of W) a i → is_row a ≡ true
+pub odd_remembered : {m N limit : ℕ} {W : View} {a i : ℕ} {f : Option ℕ} → Ready m N limit W → RowAt (rows_of W) a i → is_row a ≡ true
     → RowPost W a i ODD f → OddKnown m W a f
 odd_remembered {m} {W = W} {a = a} {i = i} {f = f} r o h p = record {
   at = λ v e. (right v e).answer;
@@ -76,25 +75,28 @@ odd_remembered {m} {W = W} {a = a} {i = i} {f = f} r o h p = record {
   none = λ e. h;
 }
   where
-    right : (v : ℕ) → f ≡ find.At v → RightFor m (rows_of W) ODD a v
+    right : (v : ℕ) → f ≡ Some v → RightFor m (rows_of W) ODD a v
     right v e = arrow-right ODD a r.memory o.used (omega arith) o.leads (rw e at p)
 
 -- a row: two calls, and OR or the making of a row
 module _ {m N limit : ℕ} {W : View} {a i l lo hi : ℕ} (r : Ready m N limit W) (o : Opened m (rows_of W) a i l lo hi) where
-  none_stops : {X : View} → Grown m W X → OddPost m W X a FULL
-  none_stops g = record { grown = g; result = λ n. absurd (n refl); covered = λ n. absurd (n refl) }
+  none_stops : {X : View} {e : Full} → Grown m W X → OddPost m W X a (Err e)
+  none_stops {e = e} g = record { grown = g; result = λ x q. absurd (differ x q); covered = λ x q. absurd (differ x q) }
+    where
+      differ : (x : ℕ) → Err e ≡ Ok x → ⊥
+      differ x q = let z : ◌≡◌ {A = ℕ} 0 1 = cc in omega arith
 
-  pub odd_low_stops : {X : View} {x : ℕ} → OddPost m W X lo x → OddPost m W X a FULL
+  pub odd_low_stops : {X : View} {e f : Full} → OddPost m W X lo (Err e) → OddPost m W X a (Err f)
   odd_low_stops p = none_stops p.grown
 
-  module _ {X₁ : View} {x : ℕ} (n₁ : x ≢ FULL) (p₁ : OddPost m W X₁ lo x) where
+  module _ {X₁ : View} {x : ℕ} (p₁ : OddPost m W X₁ lo (Ok x)) where
     pub odd-high-pre : Ready m N limit X₁ × Arrow (rows_of X₁) hi
     odd-high-pre = (ready-grown r p₁.grown, arrow_extends p₁.grown.kept hi o.parts.high-arrow)
 
-    pub odd_high_stops : {X₂ : View} {y : ℕ} → OddPost m X₁ X₂ hi y → OddPost m W X₂ a FULL
+    pub odd_high_stops : {X₂ : View} {e f : Full} → OddPost m X₁ X₂ hi (Err e) → OddPost m W X₂ a (Err f)
     odd_high_stops p = none_stops (grown_trans p₁.grown p.grown)
 
-    module _ {X₂ : View} {y : ℕ} (n₂ : y ≢ FULL) (p₂ : OddPost m X₁ X₂ hi y) where
+    module _ {X₂ : View} {y : ℕ} (p₂ : OddPost m X₁ X₂ hi (Ok y)) where
       both : Grown m W X₂
       both = grown_trans p₁.grown p₂.grown
 
@@ -105,15 +107,16 @@ module _ {m N limit : ℕ} {W : View} {a i l lo hi : ℕ} (r : Ready m N limit W
       ready₂ = ready-grown r both
 
       low-is : Denotes m (rows_of X₂) x (odd_f (den m (rows_of W) lo))
-      low-is = denotes_extends (ready-wf ready₁) p₂.grown.kept (p₁.result n₁)
+      low-is = denotes_extends (ready-wf ready₁) p₂.grown.kept (p₁.result x refl)
 
       high_is : Denotes m (rows_of X₂) y (odd_f (den m (rows_of W) hi))
       high_is =
           subst (λ (f : Fn). Denotes m (rows_of X₂) y (odd_f f))
-          (fun_ext (den_extends p₁.grown.kept (ready-wf r) m hi o.parts.high-arrow)) (p₂.result n₂)
+          (fun_ext (den_extends p₁.grown.kept (ready-wf r) m hi o.parts.high-arrow)) (p₂.result y refl)
 
       -- at an odd level: OR
-      odd-or : {X₃ : View} {t : Made} → l % 2 ≡ 1 → Worked m N limit X₂ X₃ t (two_f ◌||◌ (den m (rows_of X₂) x) (den m (rows_of X₂) y))
+      odd-or : {X₃ : View} {t : Result ℕ Full} → l % 2 ≡ 1
+          → Worked m N limit X₂ X₃ t (two_f ◌||◌ (den m (rows_of X₂) x) (den m (rows_of X₂) y))
           → Worked m N limit X₂ X₃ t (odd_f (den m (rows_of W) a))
       odd-or h w =
           let s = r.good.sizes.n_max in let e = r.levels-is in let k = o.shallow in
@@ -140,63 +143,56 @@ module _ {m N limit : ℕ} {W : View} {a i l lo hi : ℕ} (r : Ready m N limit W
           high_deeper = deeper y _ splits.reads1 high_is;
         })
 
-        odd-made : {X₃ : View} {t : Made} → MakePost X₂ X₃ limit l x y t → Worked m N limit X₂ X₃ t (odd_f (den m (rows_of W) a))
+        odd-made : {X₃ : View} {t : Result ℕ Full} → MakePost X₂ X₃ limit l x y t → Worked m N limit X₂ X₃ t (odd_f (den m (rows_of W) a))
         odd-made p = worked_made ready₂ p (post-make (ready-wf ready₂) o.shallow splits low-is high_is (making ready₂ p))
 
       pub odd_join-pre : JoinPre m N limit X₂ l x y
       odd_join-pre = record { ready = ready₂; low = low-is.arrow; high = high_is.arrow; make = odd-make-pre }
 
-      pub odd-joined : {X₃ : View} {t : Made} → JoinPost m N limit X₂ X₃ l x y t → Worked m N limit X₂ X₃ t (odd_f (den m (rows_of W) a))
+      pub odd-joined : {X₃ : View} {t : Result ℕ Full} → JoinPost m N limit X₂ X₃ l x y t
+          → Worked m N limit X₂ X₃ t (odd_f (den m (rows_of W) a))
       odd-joined (by-or h w) = odd-or h w
       odd-joined (by_row h p) = odd-made h p
 
       -- the result is remembered by the row
-      module _ {X₃ : View} (c : ℕ) (w : Worked m N limit X₂ X₃ (made_of c) (odd_f (den m (rows_of W) a))) where
+      module _ {X₃ : View} (c : Result ℕ Full) (w : Worked m N limit X₂ X₃ c (odd_f (den m (rows_of W) a))) where
         whole : Grown m W X₃
         whole = grown_trans both (grown_worked w)
 
-        value : c ≢ FULL → Denotes m (rows_of X₃) c (odd_f (den m (rows_of W) a))
-        value n = (rw (code_at c n) at w).post.result
+        value : (v : ℕ) → c ≡ Ok v → Denotes m (rows_of X₃) v (odd_f (den m (rows_of W) a))
+        value v e = (rw e at w).post.result
 
-        own : c ≢ FULL → Denotes m (rows_of X₃) c (odd_f (den m (rows_of X₃) a))
-        own n =
+        own : (v : ℕ) → c ≡ Ok v → Denotes m (rows_of X₃) v (odd_f (den m (rows_of X₃) a))
+        own v q =
             let u = leads-arrow (rows_of W) a i o.at.leads o.at.used in
             let e : den m (rows_of W) a ≡ den m (rows_of X₃) a = fun_ext (λ v. sym (den_extends whole.kept (ready-wf r) m a u v)) in
-            subst (λ (f : Fn). Denotes m (rows_of X₃) c (odd_f f)) e (value n)
+            subst (λ (f : Fn). Denotes m (rows_of X₃) v (odd_f f)) e (value v q)
 
-        cover : c ≢ FULL → Covered m (rows_of X₃) a
-        cover n =
+        cover : (v : ℕ) → c ≡ Ok v → Covered m (rows_of X₃) a
+        cover v q =
             let el : follow (rows_of X₃) a i false ≡ lo = ap (carry (marked a)) (whole.kept.low i o.at.used) ∙ sym o.words.low in
             let eh : follow (rows_of X₃) a i true ≡ hi = ap (carry (marked a)) (whole.kept.high i o.at.used) ∙ sym o.words.high in
             let kl = covered_extends {a = lo} (ready-wf ready₁) (extends_trans p₂.grown.kept w.post.kept)
-            (arrow_extends p₁.grown.kept lo o.parts.low-arrow) (p₁.covered n₁) in
+            (arrow_extends p₁.grown.kept lo o.parts.low-arrow) (p₁.covered x refl) in
             let kh = covered_extends {a = hi} (ready-wf ready₂) w.post.kept (arrow_extends both.kept hi o.parts.high-arrow)
-            (p₂.covered n₂) in
-            covered-row {b = c} o.at.leads (own n) (subst (Covered m (rows_of X₃)) (sym el) kl)
+            (p₂.covered y refl) in
+            covered-row {b = v} o.at.leads (own v q) (subst (Covered m (rows_of X₃)) (sym el) kl)
             (subst (Covered m (rows_of X₃)) (sym eh) kh)
 
-        right : (t : Made) → made_of c ≡ t → RightRow m (rows_of X₃) a ODD t
-        right (answer.At v) e = full-or (ℕ_discrete c FULL) v e
-          where
-            full-or : Dec (c ≡ FULL) → (v : ℕ) → made_of c ≡ answer.At v → RightFor m (rows_of X₃) ODD a v
-            full-or (yes q) v z =
-                absurd (let y : answer.Full ≡ answer.At v = sym (code_is c q) ∙ z in let k : ◌≡◌ {A = ℕ} 0 1 = cc in omega arith)
-            full-or (no n) v z =
-                let y : answer.At c ≡ answer.At v = sym (code_at c n) ∙ z in
-                let k : c ≡ v = cc in
-                subst (RightFor m (rows_of X₃) ODD a) k (record { answer = own n; covered = λ q. cover n })
-        right answer.Full e = tt
+        right : (t : Result ℕ Full) → c ≡ t → RightRow m (rows_of X₃) a ODD t
+        right (Ok v) e = record { answer = own v e; covered = λ q. cover v e }
+        right (Err _) e = tt
 
         pub odd-kept : {Y : View} → Y ≡ keep_row X₃ a i ODD c → OddPost m W Y a c
         odd-kept {Y} e = subst (λ (Z : View). OddPost m W Z a c) (sym e) (record {
           grown = record {
             good = alike_good (memo_alike f) w.good;
-            memory = remembers_row X₃ a i ODD c (omega arith) o.at.leads w.memory (right (made_of c) refl);
+            memory = remembers_row X₃ a i ODD c (omega arith) o.at.leads w.memory (right c refl);
             frame = op_trans whole.frame (op_memo f);
             kept = subst (Extends (rows_of W)) (sym (rows_same f)) whole.kept;
           };
-          result = λ n. subst (λ (t : Rows). Denotes m t c (odd_f (den m (rows_of W) a))) (sym (rows_same f)) (value n);
-          covered = λ n. subst (λ (t : Rows). Covered m t a) (sym (rows_same f)) (cover n);
+          result = λ v q. subst (λ (t : Rows). Denotes m t v (odd_f (den m (rows_of W) a))) (sym (rows_same f)) (value v q);
+          covered = λ v q. subst (λ (t : Rows). Covered m t a) (sym (rows_same f)) (cover v q);
         })
           where
             f : MemoFrame X₃ (keep_row X₃ a i ODD c)

@@ -21,11 +21,8 @@ use Rattle.layout.specs.Arrows.{is_row, row_of}
 use Rattle.layout.proofs.Arrows.{row_is, row-yes, no_row}
 use Rattle.rows.specs.Used.{rows_of}
 use Rattle.rows.proofs.Used.{of_arrow}
-use Rattle.table.specs.Code.{made_of}
-use Rattle.table.specs.declared.Made.{Made}
-use Rattle.table.specs.declared.Made.TheVariants as answer
-use Rattle.table.specs.declared.Found.{Found}
-use Rattle.table.specs.declared.Found.TheVariants as find
+use Rattle.std.specs.Prelude.{Option, Some, None, Result, Ok, Err}
+use Rattle.table.specs.declared.Full.{Full}
 use Rattle.memory.specs.Memo.{Remembers, RecallPost}
 use Rattle.memory.proofs.Memo.{held-entry}
 use Rattle.memory.specs.Store.{RememberPost}
@@ -39,23 +36,23 @@ use Rattle.operations.specs.Pairs.{short_of, BothRows, KnownAt, at_once, recalle
 
 -- the ways through it
 module _ (lo hi : ℕ) where
-  pub short-same : lo ≡ hi → find.At lo ≡ short_of lo hi
+  pub short-same : lo ≡ hi → Some lo ≡ short_of lo hi
   unfolding short_of
   short-same e = rw (eq-eqb lo hi e)
 
-  pub short-not : {x : ℕ} → lo ≢ hi → x ≡ flip lo → hi ≡ x → find.At 0 ≡ short_of lo hi
+  pub short-not : {x : ℕ} → lo ≢ hi → x ≡ flip lo → hi ≡ x → Some 0 ≡ short_of lo hi
   unfolding short_of
   short-not n e q = rw (ne_eqb lo hi n, eq-eqb hi (flip lo) (q ∙ e))
 
-  pub short_row : {x : ℕ} {b : Bool} → lo ≢ hi → x ≡ flip lo → hi ≢ x → b ≡ is_row lo → b ≡ true → find.Nothing ≡ short_of lo hi
+  pub short_row : {x : ℕ} {b : Bool} → lo ≢ hi → x ≡ flip lo → hi ≢ x → b ≡ is_row lo → b ≡ true → None ≡ short_of lo hi
   unfolding short_of
   short_row n e q f t = rw (ne_eqb lo hi n, ne_eqb hi (flip lo) (λ z. q (z ∙ sym e)), sym f ∙ t)
 
-  pub short-zero : {x : ℕ} {b : Bool} → lo ≢ hi → x ≡ flip lo → hi ≢ x → b ≡ is_row lo → b ≡ false → lo ≡ 0 → find.At lo ≡ short_of lo hi
+  pub short-zero : {x : ℕ} {b : Bool} → lo ≢ hi → x ≡ flip lo → hi ≢ x → b ≡ is_row lo → b ≡ false → lo ≡ 0 → Some lo ≡ short_of lo hi
   unfolding short_of
   short-zero n e q f t z = rw (ne_eqb lo hi n, ne_eqb hi (flip lo) (λ y. q (y ∙ sym e)), sym f ∙ t, eq-eqb lo 0 z)
 
-  pub short-one : {x : ℕ} {b : Bool} → lo ≢ hi → x ≡ flip lo → hi ≢ x → b ≡ is_row lo → b ≡ false → lo ≢ 0 → find.At hi ≡ short_of lo hi
+  pub short-one : {x : ℕ} {b : Bool} → lo ≢ hi → x ≡ flip lo → hi ≢ x → b ≡ is_row lo → b ≡ false → lo ≢ 0 → Some hi ≡ short_of lo hi
   unfolding short_of
   short-one n e q f t z = rw (ne_eqb lo hi n, ne_eqb hi (flip lo) (λ y. q (y ∙ sym e)), sym f ∙ t, ne_eqb lo 0 z)
 
@@ -95,17 +92,17 @@ module _ (m : ℕ) (rows : Rows) where
             ∙ and-not (den m rows lo v));
       }
 
-  pub short-right : (lo hi v : ℕ) → Arrow rows lo → Arrow rows hi → short_of lo hi ≡ find.At v
+  pub short-right : (lo hi v : ℕ) → Arrow rows lo → Arrow rows hi → short_of lo hi ≡ Some v
       → Denotes m rows v (and_f (den m rows lo) (den m rows hi))
   unfolding short_of
   short-right lo hi v a b = go (eqb lo hi) refl (eqb hi (flip lo)) refl (is_row lo) refl (eqb lo 0) refl
     where
-      at : {x : ℕ} → find.At x ≡ find.At v → Denotes m rows x (and_f (den m rows lo) (den m rows hi))
+      at : {x : ℕ} → Some x ≡ Some v → Denotes m rows x (and_f (den m rows lo) (den m rows hi))
           → Denotes m rows v (and_f (den m rows lo) (den m rows hi))
       at {x} e d = let z : x ≡ v = cc in subst (λ (r : ℕ). Denotes m rows r (and_f (den m rows lo) (den m rows hi))) z d
 
       go : (p : Bool) → eqb lo hi ≡ p → (t : Bool) → eqb hi (flip lo) ≡ t → (q : Bool) → is_row lo ≡ q → (s : Bool) → eqb lo 0 ≡ s
-          → cond p (find.At lo) (cond t (find.At 0) (cond q find.Nothing (cond s (find.At lo) (find.At hi)))) ≡ find.At v
+          → cond p (Some lo) (cond t (Some 0) (cond q None (cond s (Some lo) (Some hi)))) ≡ Some v
           → Denotes m rows v (and_f (den m rows lo) (den m rows hi))
       go true e t k q f s g h =
           at h (record { arrow = a; same = λ x. let z : lo ≡ hi = eqb-true lo hi e in rw (← z) (sym (and_self (den m rows lo x))) })
@@ -118,12 +115,12 @@ is_row_lem : (a : ℕ) → is_row a ≡ true → 2 ≤ a
 is_row_lem a h = let e = row_is a h in omega arith
 
 -- what is not known at once are two, and the first leads to a row
-short-differ : (lo hi : ℕ) → short_of lo hi ≡ find.Nothing → (lo ≢ hi) × (is_row lo ≡ true)
+short-differ : (lo hi : ℕ) → short_of lo hi ≡ None → (lo ≢ hi) × (is_row lo ≡ true)
 unfolding short_of
 short-differ lo hi = go (eqb lo hi) refl (eqb hi (flip lo)) refl (is_row lo) refl (eqb lo 0) refl
   where
     go : (p : Bool) → eqb lo hi ≡ p → (t : Bool) → eqb hi (flip lo) ≡ t → (q : Bool) → is_row lo ≡ q → (s : Bool) → eqb lo 0 ≡ s
-        → cond p (find.At lo) (cond t (find.At 0) (cond q find.Nothing (cond s (find.At lo) (find.At hi)))) ≡ find.Nothing
+        → cond p (Some lo) (cond t (Some 0) (cond q None (cond s (Some lo) (Some hi)))) ≡ None
         → (lo ≢ hi) × (is_row lo ≡ true)
     go true e t k q f s g h = absurd (let z : ◌≡◌ {A = ℕ} 0 1 = cc in omega arith)
     go false e true k q f s g h = absurd (let z : ◌≡◌ {A = ℕ} 0 1 = cc in omega arith)
@@ -131,16 +128,16 @@ short-differ lo hi = go (eqb lo hi) refl (eqb hi (flip lo)) refl (is_row lo) ref
     go false e false k false f true g h = absurd (let z : ◌≡◌ {A = ℕ} 0 1 = cc in omega arith)
     go false e false k false f false g h = absurd (let z : ◌≡◌ {A = ℕ} 0 1 = cc in omega arith)
 
-pub short_none : (lo hi : ℕ) → lo ≤ hi → short_of lo hi ≡ find.Nothing → BothRows lo hi
+pub short_none : (lo hi : ℕ) → lo ≤ hi → short_of lo hi ≡ None → BothRows lo hi
 short_none lo hi l e =
     let d = short-differ lo hi e in
     let n = d.0 in
     let j = is_row_lem lo d.1 in
     record { left = d.1; right = row-yes hi (omega arith); less = omega arith }
 
-pub known-recalled : (W : View) (lo hi : ℕ) (f : Found) → short_of lo hi ≡ find.Nothing → RecallPost W lo hi f → KnownPost W lo hi f
-known-recalled W lo hi (find.At v) e h = recalled e h
-known-recalled W lo hi find.Nothing e h = e
+pub known-recalled : (W : View) (lo hi : ℕ) (f : Option ℕ) → short_of lo hi ≡ None → RecallPost W lo hi f → KnownPost W lo hi f
+known-recalled W lo hi (Some v) e h = recalled e h
+known-recalled W lo hi None e h = e
 
 -- what is known of AND is right
 known-right : {m N limit : ℕ} {W : View} (lo hi v : ℕ) → Ready m N limit W → Arrow (rows_of W) lo → Arrow (rows_of W) hi → KnownAt W lo hi v
@@ -159,8 +156,7 @@ sorted_swap {lo} {hi} a b p q = by_cases (dec_le a b)
     (λ h. let x : lo ≡ a = omega arith in let y : hi ≡ b = omega arith in rw (x, y) same)
     (λ h. let x : lo ≡ b = omega arith in let y : hi ≡ a = omega arith in rw (x, y) swapped)
 
-pub swap-arrows : {m N limit : ℕ} {W : View} {a b lo hi : ℕ} → Ready m N limit W → Swap a b lo hi → Arrow (rows_of W) a → Arrow (rows_of W) b
-    → Arrow (rows_of W) lo × Arrow (rows_of W) hi
+pub swap-arrows : {m N limit : ℕ} {W : View} {a b lo hi : ℕ} → Ready m N limit W → Swap a b lo hi → Arrow (rows_of W) a → Arrow (rows_of W) b → Arrow (rows_of W) lo × Arrow (rows_of W) hi
 swap-arrows r same x y = (x, y)
 swap-arrows r swapped x y = (y, x)
 
@@ -251,17 +247,19 @@ module _ {rows : Rows} {j k x y : ℕ} (l a : ℕ) (h : is_row a ≡ true) (q : 
 
 -- AND of a and b is AND of lo and hi
 module _ {m N limit : ℕ} {W : View} {a b lo hi : ℕ} (r : Ready m N limit W) (w : Swap a b lo hi) where
-  pub swap_worked : {X : View} {t : Made} → Worked m N limit W X t (and_f (den m (rows_of W) lo) (den m (rows_of W) hi))
+  pub swap_worked : {X : View} {t : Result ℕ Full} → Worked m N limit W X t (and_f (den m (rows_of W) lo) (den m (rows_of W) hi))
       → Worked m N limit W X t (and_f (den m (rows_of W) a) (den m (rows_of W) b))
   swap_worked k = worked_cong (swap_fn m (rows_of W) w) k
 
 -- AND of lo and hi may be remembered
-pair_remembers : {m N limit : ℕ} {W X Y : View} (lo hi : ℕ) (t : Made) → Ready m N limit W → Arrow (rows_of W) lo × Arrow (rows_of W) hi
+pair_remembers : {m N limit : ℕ} {W X Y : View} (lo hi : ℕ) (t : Result ℕ Full) → Ready m N limit W
+    → Arrow (rows_of W) lo × Arrow (rows_of W) hi
     → Worked m N limit W X t (and_f (den m (rows_of W) lo) (den m (rows_of W) hi)) → RememberPost X Y lo hi t → Remembers m Y
 pair_remembers {m} {N} {limit} {W} {X} lo hi t r u k p = remembers_pair lo hi t k.memory (right t k) p
   where
-    right : (s : Made) → Worked m N limit W X s (and_f (den m (rows_of W) lo) (den m (rows_of W) hi)) → RightPair m (rows_of X) lo hi s
-    right (answer.At v) q =
+    right : (s : Result ℕ Full) → Worked m N limit W X s (and_f (den m (rows_of W) lo) (den m (rows_of W) hi))
+        → RightPair m (rows_of X) lo hi s
+    right (Ok v) q =
         let x = q.post.kept in
         record {
           left = arrow_extends x lo u.0;
@@ -272,12 +270,12 @@ pair_remembers {m} {N} {limit} {W} {X} lo hi t r u k p = remembers_pair lo hi t 
                 ∙ ap₂ ◌&&◌ (sym (den_extends x (ready-wf r) m lo u.0 y)) (sym (den_extends x (ready-wf r) m hi u.1 y));
           };
         }
-    right answer.Full q = tt
+    right (Err _) q = tt
 
 module _ {m N limit : ℕ} {W : View} {lo hi : ℕ} (r : Ready m N limit W) (u : Arrow (rows_of W) lo × Arrow (rows_of W) hi) where
   -- what is known
-  pub known_worked : {v : ℕ} {f : Found} → lo ≤ hi → f ≡ find.At v → KnownPost W lo hi f
-      → Worked m N limit W W (made_of v) (and_f (den m (rows_of W) lo) (den m (rows_of W) hi))
+  pub known_worked : {v : ℕ} {f : Option ℕ} → lo ≤ hi → f ≡ Some v → KnownPost W lo hi f
+      → Worked m N limit W W (Ok v) (and_f (den m (rows_of W) lo) (den m (rows_of W) hi))
   known_worked {v} l e p = worked_there r (known-right lo hi v r u.0 u.1 (rw e at p))
 
   -- what the two calls compute
@@ -287,8 +285,8 @@ module _ {m N limit : ℕ} {W : View} {lo hi : ℕ} (r : Ready m N limit W) (u :
   pair-calls s = two_divides (ready-wf r) s.shallow s.left ◌&&◌ s.right
 
   -- the result is remembered
-  pub pair-kept : {X Y : View} {t : Made} → BothRows lo hi → Worked m N limit W X t (and_f (den m (rows_of W) lo) (den m (rows_of W) hi))
-      → RememberPost X Y lo hi t
+  pub pair-kept : {X Y : View} {t : Result ℕ Full} → BothRows lo hi
+      → Worked m N limit W X t (and_f (den m (rows_of W) lo) (den m (rows_of W) hi)) → RememberPost X Y lo hi t
       → Worked m N limit W Y t (and_f (den m (rows_of W) lo) (den m (rows_of W) hi))
   pair-kept {t = t} z k p = worked_kept k (remember-frame lo hi t p) (pair_remembers lo hi t r u k p)
 
@@ -325,45 +323,45 @@ turned-arrows rows a b u = (carry_arrow rows true a u.0, carry_arrow rows true b
 
 -- what the code turns
 module _ (lo hi : ℕ) {x y : ℕ} (ex : x ≡ flip lo) (ey : y ≡ flip hi) where
-  pub or-by : {r : Found} (W : View) (f : Found) → KnownPost W x y f → r ≡ carried_found true f → OrKnown W lo hi r
+  pub or-by : {r : Option ℕ} (W : View) (f : Option ℕ) → KnownPost W x y f → r ≡ carried_found true f → OrKnown W lo hi r
   or-by W f k e = record { found = f; known = subst₂ (λ (i j : ℕ). KnownPost W i j f) ex ey k; turned = e }
 
-  pub or-stored : {W X : View} {c z : ℕ} → CarriedMade true c z → RememberPost W X x y (made_of z) → OrRemembered W X lo hi c
-  or-stored {W} {X} {z = z} t p =
-      record { answer = z; turned = t; post = subst₂ (λ (i j : ℕ). RememberPost W X i j (made_of z)) ex ey p }
+  pub or-stored : {W X : View} (c z : Result ℕ Full) → CarriedMade true c z → RememberPost W X x y z → OrRemembered W X lo hi c
+  or-stored {W} {X} c z t p =
+      record { answer = z; turned = t; post = subst₂ (λ (i j : ℕ). RememberPost W X i j z) ex ey p }
 
 -- where OR is not known, both lead to rows
-pub or-none : {W : View} (lo hi : ℕ) {f : Found} → lo ≤ hi → f ≡ find.Nothing → OrKnown W lo hi f → BothRows lo hi
+pub or-none : {W : View} (lo hi : ℕ) {f : Option ℕ} → lo ≤ hi → f ≡ None → OrKnown W lo hi f → BothRows lo hi
 or-none {W} lo hi {f} l e k = go k.found k.known (sym k.turned ∙ e)
   where
-    go : (g : Found) → KnownPost W (flip lo) (flip hi) g → carried_found true g ≡ find.Nothing → BothRows lo hi
-    go (find.At v) p q = absurd (let z : ◌≡◌ {A = ℕ} 0 1 = cc in omega arith)
-    go find.Nothing p q =
+    go : (g : Option ℕ) → KnownPost W (flip lo) (flip hi) g → carried_found true g ≡ None → BothRows lo hi
+    go (Some v) p q = absurd (let z : ◌≡◌ {A = ℕ} 0 1 = cc in omega arith)
+    go None p q =
         let d = short-differ (flip lo) (flip hi) p in
         let n : lo ≢ hi = λ z. d.0 (ap flip z) in
         let j = is_row_lem (flip lo) d.1 in
         record { left = row-yes lo (omega arith); right = row-yes hi (omega arith); less = omega arith }
 
 module _ {m N limit : ℕ} {W : View} {a b lo hi : ℕ} (r : Ready m N limit W) (w : Swap a b lo hi) where
-  pub or-swapped : {X : View} {t : Made} → Worked m N limit W X t (or_f (den m (rows_of W) lo) (den m (rows_of W) hi))
+  pub or-swapped : {X : View} {t : Result ℕ Full} → Worked m N limit W X t (or_f (den m (rows_of W) lo) (den m (rows_of W) hi))
       → Worked m N limit W X t (or_f (den m (rows_of W) a) (den m (rows_of W) b))
   or-swapped k = worked_cong (swap_or m (rows_of W) w) k
 
 module _ {m N limit : ℕ} {W : View} {lo hi : ℕ} (r : Ready m N limit W) (u : Arrow (rows_of W) lo × Arrow (rows_of W) hi) where
   -- what is known
-  pub or_known_lem : {v : ℕ} {f : Found} → f ≡ find.At v → OrKnown W lo hi f
-      → Worked m N limit W W (made_of v) (or_f (den m (rows_of W) lo) (den m (rows_of W) hi))
+  pub or_known_lem : {v : ℕ} {f : Option ℕ} → f ≡ Some v → OrKnown W lo hi f
+      → Worked m N limit W W (Ok v) (or_f (den m (rows_of W) lo) (den m (rows_of W) hi))
   or_known_lem {v} e k = worked_there r (go k.found k.known (sym k.turned ∙ e))
     where
-      go : (g : Found) → KnownPost W (flip lo) (flip hi) g → carried_found true g ≡ find.At v
+      go : (g : Option ℕ) → KnownPost W (flip lo) (flip hi) g → carried_found true g ≡ Some v
           → Denotes m (rows_of W) v (or_f (den m (rows_of W) lo) (den m (rows_of W) hi))
-      go (find.At x) p q =
+      go (Some x) p q =
           let z : flip x ≡ v = cc in
           let U = turned-arrows (rows_of W) lo hi u in
           subst (λ (y : ℕ). Denotes m (rows_of W) y (or_f (den m (rows_of W) lo) (den m (rows_of W) hi))) z
           (denotes-carried true (turned_or m (rows_of W) lo hi)
           (known-right (flip lo) (flip hi) x r U.0 U.1 p))
-      go find.Nothing p q = absurd (let z : ◌≡◌ {A = ℕ} 0 1 = cc in omega arith)
+      go None p q = absurd (let z : ◌≡◌ {A = ℕ} 0 1 = cc in omega arith)
 
   -- what the two calls compute
   pub or-calls : {l x₀ x₁ y₀ y₁ : ℕ} → Split m (rows_of W) lo hi l x₀ x₁ y₀ y₁
@@ -372,10 +370,10 @@ module _ {m N limit : ℕ} {W : View} {lo hi : ℕ} (r : Ready m N limit W) (u :
   or-calls s = two_divides (ready-wf r) s.shallow s.left ◌||◌ s.right
 
   -- the result is remembered, as AND of the two with the other mark
-  pub or_kept : {X Y : View} {c : ℕ} → Worked m N limit W X (made_of c) (or_f (den m (rows_of W) lo) (den m (rows_of W) hi))
+  pub or_kept : {X Y : View} {c : Result ℕ Full} → Worked m N limit W X c (or_f (den m (rows_of W) lo) (den m (rows_of W) hi))
       → OrRemembered X Y lo hi c
-      → Worked m N limit W Y (made_of c) (or_f (den m (rows_of W) lo) (den m (rows_of W) hi))
-  or_kept k p =
-      worked_kept k (remember-frame (flip lo) (flip hi) (made_of p.answer) p.post)
-      (pair_remembers (flip lo) (flip hi) (made_of p.answer) r (turned-arrows (rows_of W) lo hi u)
-      (worked_carried true (turned-and m (rows_of W) lo hi) k p.turned) p.post)
+      → Worked m N limit W Y c (or_f (den m (rows_of W) lo) (den m (rows_of W) hi))
+  or_kept {c = c} k p =
+      worked_kept k (remember-frame (flip lo) (flip hi) p.answer p.post)
+      (pair_remembers (flip lo) (flip hi) p.answer r (turned-arrows (rows_of W) lo hi u)
+      (worked_carried true c (turned-and m (rows_of W) lo hi) k p.turned) p.post)

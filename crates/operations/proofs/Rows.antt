@@ -21,11 +21,8 @@ use Rattle.layout.specs.View.{View}
 use Rattle.layout.specs.Arrows.{is_row}
 use Rattle.layout.proofs.Arrows.{no_row-leads}
 use Rattle.rows.specs.Used.{rows_of}
-use Rattle.table.specs.Code.{made_of}
-use Rattle.table.specs.declared.Made.{Made}
-use Rattle.table.specs.declared.Made.TheVariants as answer
-use Rattle.table.specs.declared.Found.{Found}
-use Rattle.table.specs.declared.Found.TheVariants as find
+use Rattle.std.specs.Prelude.{Option, Some, Result, Ok, Err}
+use Rattle.table.specs.declared.Full.{Full}
 use Rattle.memory.specs.Memo.{ODD, KINDS, unary_f, RowPost}
 use Rattle.memory.proofs.Memo.{arrow-right}
 use Rattle.memory.specs.Store.{keep_row}
@@ -47,22 +44,22 @@ shift_is m rows a e =
     }
 
 module _ {m N : ℕ} {W : View} {R : Type 0} (r : Ready m N 0 W) where
-  pub shift_constant : (a : ℕ) → is_row a ≡ false → Known m W (find.At a) (shift_f (den m (rows_of W) a)) R
+  pub shift_constant : (a : ℕ) → is_row a ≡ false → Known m W (Some a) (shift_f (den m (rows_of W) a)) R
   shift_constant a h = known_at (shift_is m (rows_of W) a (no_row-leads a h))
 
   -- EXISTS at x below the arrow's level
-  exists_deeper : (x a : ℕ) → Arrow (rows_of W) a → x < level_of m (rows_of W) a → Known m W (find.At a) (exists_f x (den m (rows_of W) a)) R
+  exists_deeper : (x a : ℕ) → Arrow (rows_of W) a → x < level_of m (rows_of W) a → Known m W (Some a) (exists_f x (den m (rows_of W) a)) R
   exists_deeper x a u h = let p = exists-leaf (ready-wf r) {limit = 0} x a u h in known_at p.result
 
-  pub exists_constant : (x a : ℕ) → x < m → Arrow (rows_of W) a → is_row a ≡ false → Known m W (find.At a) (exists_f x (den m (rows_of W) a)) R
+  pub exists_constant : (x a : ℕ) → x < m → Arrow (rows_of W) a → is_row a ≡ false → Known m W (Some a) (exists_f x (den m (rows_of W) a)) R
   exists_constant x a h u n = exists_deeper x a u (subst (λ (k : ℕ). x < level_to m (rows_of W) k) (sym (no_row-leads a n)) h)
 
   pub exists-past : {i l : ℕ} (x a : ℕ) → Arrow (rows_of W) a → RowAt (rows_of W) a i → l ≡ (rows_of W).level i → x < l
-      → Known m W (find.At a) (exists_f x (den m (rows_of W) a)) R
+      → Known m W (Some a) (exists_f x (den m (rows_of W) a)) R
   exists-past x a u q e h = exists_deeper x a u (subst (λ (k : ℕ). x < k) (e ∙ sym (leads-level m (rows_of W) a _ q.leads)) h)
 
   -- what row i remembers for a
-  pub row-known : {a i : ℕ} {f : Found} (kind : ℕ) → kind ≢ 0 → RowAt (rows_of W) a i → R → RowPost W a i kind f
+  pub row-known : {a i : ℕ} {f : Option ℕ} (kind : ℕ) → kind ≢ 0 → RowAt (rows_of W) a i → R → RowPost W a i kind f
       → Known m W f (unary_f kind (den m (rows_of W) a)) R
   row-known {a} kind n o x p = record {
     at = λ v e. (arrow-right kind a r.memory o.used n o.leads (rw e at p)).answer;
@@ -71,20 +68,20 @@ module _ {m N : ℕ} {W : View} {R : Type 0} (r : Ready m N 0 W) where
 
 module _ {m N limit : ℕ} {W : View} (r : Ready m N limit W) where
   -- the result is remembered by the operand's row
-  pub row_kept : {X Y : View} {a i : ℕ} (kind c : ℕ) → kind ≢ ODD → kind < KINDS → RowAt (rows_of W) a i
-      → Worked m N limit W X (made_of c) (unary_f kind (den m (rows_of W) a))
-      → Y ≡ keep_row X a i kind c → Worked m N limit W Y (made_of c) (unary_f kind (den m (rows_of W) a))
+  pub row_kept : {X Y : View} {a i : ℕ} (kind : ℕ) (c : Result ℕ Full) → kind ≢ ODD → kind < KINDS → RowAt (rows_of W) a i
+      → Worked m N limit W X c (unary_f kind (den m (rows_of W) a))
+      → Y ≡ keep_row X a i kind c → Worked m N limit W Y c (unary_f kind (den m (rows_of W) a))
   row_kept {X} {a = a} {i = i} kind c n l p w e =
-      subst (λ (v : View). Worked m N limit W v (made_of c) (unary_f kind (den m (rows_of W) a))) (sym e)
+      subst (λ (v : View). Worked m N limit W v c (unary_f kind (den m (rows_of W) a))) (sym e)
       (worked_kept w (keep_row-frame X a i kind c)
-      (remembers_row X a i kind c (omega (arith, l)) p.leads w.memory (right (made_of c) w)))
+      (remembers_row X a i kind c (omega (arith, l)) p.leads w.memory (right c w)))
     where
-      right : (t : Made) → Worked m N limit W X t (unary_f kind (den m (rows_of W) a)) → RightRow m (rows_of X) a kind t
-      right (answer.At v) q =
+      right : (t : Result ℕ Full) → Worked m N limit W X t (unary_f kind (den m (rows_of W) a)) → RightRow m (rows_of X) a kind t
+      right (Ok v) q =
           let u = leads-arrow (rows_of W) a i p.leads p.used in
           let e : den m (rows_of W) a ≡ den m (rows_of X) a = fun_ext (λ x. sym (den_extends q.post.kept (ready-wf r) m a u x)) in
           record { answer = subst (λ (f : Fn). Denotes m (rows_of X) v (unary_f kind f)) e q.post.result; covered = λ z. absurd (n z) }
-      right answer.Full q = tt
+      right (Err _) q = tt
 
 -- what the two calls compute
 module _ {m N limit : ℕ} {W : View} {a i l lo hi : ℕ} (r : Ready m N limit W) (o : Opened m (rows_of W) a i l lo hi) where
@@ -93,7 +90,7 @@ module _ {m N limit : ℕ} {W : View} {a i l lo hi : ℕ} (r : Ready m N limit W
   exists-calls x h = exists_divides (ready-wf r) o.shallow o.parts x h
 
   -- EXISTS at the row's level is OR of its arrows
-  pub exists-own : {X : View} {t : Made} → Worked m N limit W X t (or_f (den m (rows_of W) lo) (den m (rows_of W) hi))
+  pub exists-own : {X : View} {t : Result ℕ Full} → Worked m N limit W X t (or_f (den m (rows_of W) lo) (den m (rows_of W) hi))
       → Worked m N limit W X t (exists_f l (den m (rows_of W) a))
   exists-own w = record { good = w.good; memory = w.memory; frame = w.frame; post = exists-or o.parts w.post }
 
@@ -117,17 +114,17 @@ module _ {m N limit : ℕ} {W : View} {a i l lo hi : ℕ} (r : Ready m N limit W
 pub exists-kind : (x : ℕ) (f : Fn) → unary_f (3 + x) f ≡ exists_f x f
 exists-kind x f = let e : 3 + x ≡ suc (suc (suc x)) = omega arith in rw e
 
-pub exists_known_lem : {m N : ℕ} {W : View} {a i : ℕ} {f : Found} {R : Type 0} (x : ℕ) → Ready m N 0 W → RowAt (rows_of W) a i → R
+pub exists_known_lem : {m N : ℕ} {W : View} {a i : ℕ} {f : Option ℕ} {R : Type 0} (x : ℕ) → Ready m N 0 W → RowAt (rows_of W) a i → R
     → RowPost W a i (3 + x) f
     → Known m W f (exists_f x (den m (rows_of W) a)) R
 exists_known_lem {m} {W = W} {a = a} {f = f} {R = R} x r q y p =
     subst (λ (g : Fn). Known m W f g R) (exists-kind x (den m (rows_of W) a)) (row-known r (3 + x) (omega arith) q y p)
 
 module _ {m N limit : ℕ} {W : View} {a i : ℕ} (r : Ready m N limit W) (x : ℕ) (q : RowAt (rows_of W) a i) where
-  pub exists-kept : {X Y : View} (c : ℕ) → x < 32 → Worked m N limit W X (made_of c) (exists_f x (den m (rows_of W) a))
+  pub exists-kept : {X Y : View} (c : Result ℕ Full) → x < 32 → Worked m N limit W X c (exists_f x (den m (rows_of W) a))
       → Y ≡ keep_row X a i (3 + x) c
-      → Worked m N limit W Y (made_of c) (exists_f x (den m (rows_of W) a))
+      → Worked m N limit W Y c (exists_f x (den m (rows_of W) a))
   exists-kept {X} {Y} c l w e =
       let k = exists-kind x (den m (rows_of W) a) in
-      subst (λ (f : Fn). Worked m N limit W Y (made_of c) f) k
-      (row_kept r (3 + x) c (omega arith) (omega (arith, l)) q (subst (λ (f : Fn). Worked m N limit W X (made_of c) f) (sym k) w) e)
+      subst (λ (f : Fn). Worked m N limit W Y c f) k
+      (row_kept r (3 + x) c (omega arith) (omega (arith, l)) q (subst (λ (f : Fn). Worked m N limit W X c f) (sym k) w) e)

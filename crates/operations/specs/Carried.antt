@@ -1,17 +1,16 @@
 -- SHIFT of an arrow that carries a NOT is NOT of SHIFT of the arrow without: it is worked out and remembered for that one, and the mark is
 -- carried on the way out. Assumes nothing.
-use Rattle.std.specs.Prelude.{◌≡◌, Bool, ◌≢◌, ℕ}
+use Rattle.std.specs.Prelude.{◌≡◌, Bool, ℕ, Option, Some, None, Result, Ok, Err}
 use Rattle.diagram.specs.Rows.{carry}
-use Rattle.table.specs.Code.{FULL}
-use Rattle.table.specs.declared.Found.{Found}
-use Rattle.table.specs.declared.Found.TheVariants as find
+use Rattle.table.specs.declared.Full.{Full}
+use Rattle.table.specs.Full.{rows_out}
 
--- r is the answer c, with a NOT where b; FULL stays
-pub data CarriedMade (b : Bool) (c r : ℕ) : Type 0 where
-  stays : c ≡ FULL → r ≡ FULL → CarriedMade b c r
-  turned : c ≢ FULL → r ≡ carry b c → CarriedMade b c r
+-- r is the answer c, with a NOT where b; that the rows ran out stays
+abbrev pub CarriedMade : Bool → Result ℕ Full → Result ℕ Full → Type 0
+CarriedMade b (Ok x) r = r ≡ Ok (carry b x)
+CarriedMade b (Err _) r = r ≡ Err rows_out
 
 -- what was found, with a NOT where b
-abbrev pub carried_found : Bool → Found → Found
-carried_found b (find.At v) = find.At (carry b v)
-carried_found b find.Nothing = find.Nothing
+abbrev pub carried_found : Bool → Option ℕ → Option ℕ
+carried_found b (Some v) = Some (carry b v)
+carried_found b None = None

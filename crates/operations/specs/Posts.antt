@@ -1,6 +1,6 @@
 -- What the operations ask of the words and promise of them, by name. `before` and `after` are the lists of words at a call and at its
 -- return. Assumes nothing.
-use Rattle.std.specs.Prelude.{◌≡◌, true, false, ℕ, ◌<◌, min, List}
+use Rattle.std.specs.Prelude.{◌≡◌, true, false, ℕ, ◌<◌, min, List, Option, Result}
 use Rattle.diagram.specs.Level.{Fn}
 use Rattle.diagram.specs.Rows.{Rows, Arrow, den}
 use Rattle.diagram.specs.Even.{ReadsOn, even}
@@ -8,8 +8,7 @@ use Rattle.diagram.specs.Steps.{low_at, high_at}
 use Rattle.layout.specs.View.{view}
 use Rattle.layout.specs.Arrows.{is_row, row_of, is_marked}
 use Rattle.rows.specs.Used.{rows_of}
-use Rattle.table.specs.Code.{made_of}
-use Rattle.table.specs.declared.Found.{Found}
+use Rattle.table.specs.declared.Full.{Full}
 use Rattle.operations.specs.Work.{Ready, Known, Worked}
 use Rattle.operations.specs.Open.{ReachesLevel}
 use Rattle.operations.specs.Odd.{JoinPost}
@@ -61,27 +60,27 @@ LevelRowPre levels rows limit words x a =
     Ready levels rows limit (view rows words) × Arrow (rows_in rows words) a × (x < levels) × ReachesLevel (rows_in rows words) x a
 
 -- what is known before any work of `op` of an arrow: an arrow for it; or nothing, and then R
-abbrev pub KnownOf : (op : Fn → Fn) (levels rows : ℕ) (words : List ℕ) (a : ℕ) (found : Found) (R : Type 0) → Type 0
+abbrev pub KnownOf : (op : Fn → Fn) (levels rows : ℕ) (words : List ℕ) (a : ℕ) (found : Option ℕ) (R : Type 0) → Type 0
 KnownOf op levels rows words a found R = Known levels (view rows words) found (op (den_in levels rows words a)) R
 
--- `Worked` of the words: r is an arrow for F, or FULL where the rows within the limit ran out; rows were only added, and nothing else is
+-- `Worked` of the words: r is an arrow for F, or the rows within the limit ran out; rows were only added, and nothing else is
 -- touched
-abbrev pub FnPost : (levels rows limit : ℕ) (before after : List ℕ) (r : ℕ) (F : Fn) → Type 0
-FnPost levels rows limit before after r F = Worked levels rows limit (view rows before) (view rows after) (made_of r) F
+abbrev pub FnPost : (levels rows limit : ℕ) (before after : List ℕ) (r : Result ℕ Full) (F : Fn) → Type 0
+FnPost levels rows limit before after r F = Worked levels rows limit (view rows before) (view rows after) r F
 
 -- an operation on one arrow: r is for `op` of what the arrow denotes before
-abbrev pub OnePost : (op : Fn → Fn) (levels rows limit : ℕ) (before after : List ℕ) (a r : ℕ) → Type 0
+abbrev pub OnePost : (op : Fn → Fn) (levels rows limit : ℕ) (before after : List ℕ) (a : ℕ) (r : Result ℕ Full) → Type 0
 OnePost op levels rows limit before after a r = FnPost levels rows limit before after r (op (den_in levels rows before a))
 
 -- and on two
-abbrev pub TwoPost : (op : Fn → Fn → Fn) (levels rows limit : ℕ) (before after : List ℕ) (a b r : ℕ) → Type 0
+abbrev pub TwoPost : (op : Fn → Fn → Fn) (levels rows limit : ℕ) (before after : List ℕ) (a b : ℕ) (r : Result ℕ Full) → Type 0
 TwoPost op levels rows limit before after a b r =
     FnPost levels rows limit before after r (op (den_in levels rows before a) (den_in levels rows before b))
 
 -- the parts of a row are joined: by OR at an odd level, by a row at an even one
-abbrev pub JoinedPost : (levels rows limit : ℕ) (before after : List ℕ) (level low high r : ℕ) → Type 0
+abbrev pub JoinedPost : (levels rows limit : ℕ) (before after : List ℕ) (level low high : ℕ) (r : Result ℕ Full) → Type 0
 JoinedPost levels rows limit before after level low high r =
-    JoinPost levels rows limit (view rows before) (view rows after) level low high (made_of r)
+    JoinPost levels rows limit (view rows before) (view rows after) level low high r
 
 -- the lesser level of two arrows to rows
 abbrev pub top_level : (rows : ℕ) (words : List ℕ) (lo hi : ℕ) → ℕ

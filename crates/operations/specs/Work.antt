@@ -1,15 +1,13 @@
 -- What every operation asks and promises, over the words. Assumes nothing.
-use Rattle.std.specs.Prelude.{◌≡◌, ℕ, ◌*◌, ◌≤◌, ◌<◌, ◌≢◌}
+use Rattle.std.specs.Prelude.{◌≡◌, ℕ, ◌*◌, ◌≤◌, ◌<◌, ◌≢◌, Option, Some, None, Result}
 use Rattle.diagram.specs.Level.{Fn}
-use Rattle.diagram.specs.Post.{at, Denotes, OpPost}
+use Rattle.diagram.specs.Post.{Denotes, OpPost}
 use Rattle.layout.specs.Places.{BITS, USED, CURSOR, SLOTS, STORED, MEMO_VALUE}
 use Rattle.layout.specs.View.{View}
 use Rattle.rows.specs.Used.{rows_of}
 use Rattle.rows.specs.Sound.{Good}
 use Rattle.table.specs.Make.{result}
-use Rattle.table.specs.declared.Made.{Made}
-use Rattle.table.specs.declared.Found.{Found}
-use Rattle.table.specs.declared.Found.TheVariants as find
+use Rattle.table.specs.declared.Full.{Full}
 use Rattle.memory.specs.Memo.{Remembers}
 
 -- what no operation changes: the header but for count, cursor and the numbers of slots, the spare word of rows, and the words beyond the
@@ -30,12 +28,12 @@ pub record Ready (m N limit : ℕ) (W : View) : Type 0 where
   pub limit-le : limit ≤ N
 
 -- what is known of an operation for F before any work: an arrow for it; or nothing, and then R
-pub record Known (m : ℕ) (W : View) (f : Found) (F : Fn) (R : Type 0) : Type 0 where
-  pub at : (v : ℕ) → f ≡ find.At v → Denotes m (rows_of W) v F
-  pub none : f ≡ find.Nothing → R
+pub record Known (m : ℕ) (W : View) (f : Option ℕ) (F : Fn) (R : Type 0) : Type 0 where
+  pub at : (v : ℕ) → f ≡ Some v → Denotes m (rows_of W) v F
+  pub none : f ≡ None → R
 
 -- what an operation for F promises: a good table, right memory, nothing else touched, and `OpPost`
-pub record Worked (m N limit : ℕ) (W X : View) (o : Made) (F : Fn) : Type 0 where
+pub record Worked (m N limit : ℕ) (W X : View) (o : Result ℕ Full) (F : Fn) : Type 0 where
   pub good : Good X
   pub memory : Remembers m X
   pub frame : OpFrame W X

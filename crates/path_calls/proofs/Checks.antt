@@ -8,8 +8,10 @@ use Prim.Native.Nat.{ℕ, suc, ◌+◌, ◌-◌, ◌<◌}
 use native.Mathlib.Omega.{arith}
 use lib.Dec.{T, ltb, ltb→lt, lt→ltb}
 use lib.ListN.{length}
+use Rattle.std.specs.Prelude.{Result}
 use Rattle.mucalculus.proofs.Sets.{true_of, false_of, and_in, and_out}
 use Rattle.mucalculus.specs.Form.{Pairs, inside}
+use Rattle.layout.specs.declared.Refusal.{Refusal}
 use Rattle.layout.specs.Refusals.{keeps_all}
 use Rattle.layout.specs.Places.{BITS, ROWS, FIRST_REGISTER, FIRST_RELATION}
 use Rattle.layout.specs.View.{View, view, header_of}
@@ -28,7 +30,6 @@ use Rattle.contract.proofs.Roots.{root-filled}
 use Rattle.formula_steps.proofs.After.{register-is, relation-is, same-table, rows-kept, words-kept, same-book}
 use Rattle.paths.specs.Runs.{Outcome, full, none as no_run, short, found, outcome}
 use Rattle.paths.specs.Call.{Ended, refuse, ends, over_filled, shortest}
-use Rattle.routes.specs.declared.Found.{Found}
 use Rattle.routes.specs.Find.{found_reply}
 use Rattle.path_calls.specs.Search.{Named, SearchPre, Searched, SearchPost}
 use Rattle.path_calls.specs.Post.{PathPost}
@@ -176,7 +177,7 @@ module _ {a b t : ℕ} (old : List ℕ) (s : SoundWords old) (r : InRange a b t)
       let qz : suc (z - 1) ≡ header_of old (FIRST_RELATION + t) = omega arith in
       says-outcome (book_of (seen old)) a b t list r (register-is old r.0 qx) (register-is old r.1 qy) (relation-is old r.2 qz)
 
-  pub call_ends : (new list after : List ℕ) {w : Found}
+  pub call_ends : (new list after : List ℕ) {w : Result ℕ Refusal}
       → SearchPost bits rows (view rows old) (view rows new) (z - 1) (x - 1) (y - 1) list after w
       → PathPost a b t old new list after (found_reply w)
   call_ends new list after {w} v =

@@ -5,7 +5,9 @@ use mathlib.Core.List.{List}
 use mathlib.Core.Option.{Option, none, some}
 use Prim.Native.Nat.{ℕ, suc, ◌+◌, ◌*◌, ◌<◌}
 use native.Mathlib.Omega.{arith}
+use Rattle.std.specs.Prelude.{Result}
 use Rattle.mucalculus.specs.Form.{inside}
+use Rattle.layout.specs.declared.Refusal.{Refusal}
 use Rattle.layout.specs.Places.{FIRST_REGISTER, FIRST_RELATION}
 use Rattle.layout.specs.View.{View}
 use Rattle.diagram.specs.Level.{Fn}
@@ -24,7 +26,6 @@ use Rattle.contract.proofs.Seen.{sound-table}
 use Rattle.formula_steps.proofs.After.{After}
 use Rattle.layers.specs.Scene.{Scene}
 use Rattle.layers.specs.Pass.{PassPre}
-use Rattle.routes.specs.declared.Found.{Found}
 use Rattle.routes.specs.Find.{FindPost}
 use Rattle.path_calls.specs.Search.{book_in, Named, SearchPre, SearchPost}
 use Rattle.path_calls.proofs.Opened.{place-some, shows, place, relation-there, start-base, start-held, live_at, left_after}
@@ -74,10 +75,11 @@ module _ {n N limit : ℕ} {W : View} {t a b : ℕ} (p : SearchPre n N limit W t
   search-asks = asks-named p.named
 
   -- what freeing asks
-  pub search_frees : {Y : View} (old : List ℕ) {new : List ℕ} {r : Found} → FindPost n limit X Y t a b old new r → Sound Y
+  pub search_frees : {Y : View} (old : List ℕ) {new : List ℕ} {r : Result ℕ Refusal} → FindPost n limit X Y t a b old new r → Sound Y
   search_frees old v = (v (scene p.named) (inside ((book_in W).reg p.ra)) (from p.named)).steps.moved.sound
 
-  pub search-done : {Y Z : View} (old : List ℕ) {new : List ℕ} {r : Found} → FindPost n limit X Y t a b old new r → FreeManyPost Y Z
+  pub search-done : {Y Z : View} (old : List ℕ) {new : List ℕ} {r : Result ℕ Refusal} → FindPost n limit X Y t a b old new r
+      → FreeManyPost Y Z
       → SearchPost n limit W Z t a b old new r
   search-done {Y} {Z} old {new} {r} v g ra rb rt m =
       let w = v (scene m) (inside ((book_in W).reg ra)) (from m) in

@@ -1,6 +1,7 @@
 -- The search over the words of a table: what it answers is the outcome of the book that the table stands for. Assumes nothing.
-use Rattle.std.specs.Prelude.{◌≡◌, List, ℕ, suc, ◌+◌, ◌≤◌, ◌<◌, length}
+use Rattle.std.specs.Prelude.{◌≡◌, List, ℕ, suc, ◌+◌, ◌≤◌, ◌<◌, length, Result}
 use Rattle.mucalculus.specs.Form.{inside}
+use Rattle.layout.specs.declared.Refusal.{Refusal}
 use Rattle.layout.specs.Places.{BITS, FIRST_REGISTER, FIRST_RELATION}
 use Rattle.layout.specs.View.{View}
 use Rattle.diagram.specs.Keep.{Keeps}
@@ -12,7 +13,6 @@ use Rattle.book.specs.Book.{Book, registers, relations, live_of}
 use Rattle.book.specs.BookOf.{book_of}
 use Rattle.contract.specs.Seen.{seen_in}
 use Rattle.paths.specs.Runs.{outcome}
-use Rattle.routes.specs.declared.Found.{Found}
 use Rattle.routes.specs.Find.{Told}
 
 -- the book that a table stands for
@@ -43,7 +43,7 @@ pub record SearchPre (n N limit : ℕ) (W : View) (t a b : ℕ) : Type 0 where
   pub named : Named W ra rb rt a b t
 
 -- a sound table, nothing touched but unneeded rows, the index and remembered results, and the book's outcome
-pub record Searched (n limit : ℕ) (W X : View) (ra rb rt : ℕ) (old new : List ℕ) (r : Found) : Type 0 where
+pub record Searched (n limit : ℕ) (W X : View) (ra rb rt : ℕ) (old new : List ℕ) (r : Result ℕ Refusal) : Type 0 where
   pub sound : Sound X
   pub frame : OpFrame W X
   pub kept : Keeps (rows_of W) (rows_of X) (filled W)
@@ -51,5 +51,5 @@ pub record Searched (n limit : ℕ) (W X : View) (ra rb rt : ℕ) (old new : Lis
       (outcome n limit (live_of (book_in W)) (inside ((book_in W).rel rt)) (inside ((book_in W).reg ra)) (inside ((book_in W).reg rb)) (length old))
       r old new
 
-abbrev pub SearchPost : ℕ → ℕ → View → View → ℕ → ℕ → ℕ → List ℕ → List ℕ → Found → Type 0
+abbrev pub SearchPost : ℕ → ℕ → View → View → ℕ → ℕ → ℕ → List ℕ → List ℕ → Result ℕ Refusal → Type 0
 SearchPost n limit W X t a b old new r = (ra rb rt : ℕ) → Named W ra rb rt a b t → Searched n limit W X ra rb rt old new r

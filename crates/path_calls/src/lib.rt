@@ -10,7 +10,7 @@ use counting::{Counts, begin};
 use layout::{Refusal, Table, header_word};
 use memory::forget;
 use modal::Limits;
-use routes::{Found, find_run};
+use routes::find_run;
 use soundness::sound;
 
 // The search, with nothing remembered before; then rows are freed where many are not needed any more.
@@ -21,7 +21,7 @@ fn search(
     relation: u32,
     a: u32,
     b: u32,
-) -> Found
+) -> Result<u32, Refusal>
     requires { SearchAsks limits words.old relation a b }
     ensures { SearchGives limits words.old words.new list.old list.new relation a b result }
 {
@@ -36,20 +36,20 @@ fn search(
 // Writes the states of the shortest run from register a into register b over relation t to the list, the least at each place, and answers
 // how many they are: 2 on unsound words, 3 where there is no such register or relation, 7 where one is empty, 8 where a step needs more
 // rows than there are, 10 where there is no run, 11 where the list is too short for it.
-pub fn shortest(words: &mut [u32], list: &mut [u16], a: u32, b: u32, t: u32) -> Found
+pub fn shortest(words: &mut [u32], list: &mut [u16], a: u32, b: u32, t: u32) -> Result<u32, Refusal>
     ensures { PathPost a b t words.old words.new list.old list.new (found_reply result) }
 {
     if !sound(words) {
-        return Found::Refused(Refusal::Unsound);
+        return Err(Refusal::Unsound);
     }
     if a >= Table::REGISTERS {
-        return Found::Refused(Refusal::Range);
+        return Err(Refusal::Range);
     }
     if b >= Table::REGISTERS {
-        return Found::Refused(Refusal::Range);
+        return Err(Refusal::Range);
     }
     if t >= Table::RELATIONS {
-        return Found::Refused(Refusal::Range);
+        return Err(Refusal::Range);
     }
     let rows = header_word(words, Table::ROWS);
     let bits = header_word(words, Table::BITS);
@@ -57,13 +57,13 @@ pub fn shortest(words: &mut [u32], list: &mut [u16], a: u32, b: u32, t: u32) -> 
     let y = header_word(words, Table::FIRST_REGISTER + (b as usize));
     let z = header_word(words, Table::FIRST_RELATION + (t as usize));
     if x == 0 {
-        return Found::Refused(Refusal::Empty);
+        return Err(Refusal::Empty);
     }
     if y == 0 {
-        return Found::Refused(Refusal::Empty);
+        return Err(Refusal::Empty);
     }
     if z == 0 {
-        return Found::Refused(Refusal::Empty);
+        return Err(Refusal::Empty);
     }
     let limits = Limits {
         bits: bits,

@@ -1,4 +1,5 @@
 -- THE THIRD DEMAND for a list of records: every list since an answered fresh is a session of the calls' own contracts. Assumes nothing.
+use Rattle.std.specs.Prelude.{Result, Ok, Err}
 use mathlib.Core.Path.{◌≡◌, refl, sym, ap, ◌∙◌, subst}
 use mathlib.Core.Bool.{Bool, true, false, cond}
 use mathlib.Core.List.{List, [], ◌∷◌, ◌++◌, append-nil, append_assoc}
@@ -21,8 +22,8 @@ use Rattle.commands.specs.declared.Outcome.{Outcome}
 use Rattle.commands.specs.Obey.{shown_reply, reply_of, Posted, Obeys}
 use Rattle.records.specs.Text.{Wrote}
 use Rattle.records.proofs.TextLaws.{wrote_then}
-use Rattle.player.specs.declared.Played.{Played}
-use Rattle.player.specs.declared.Played.TheVariants as played
+use Rattle.player.specs.declared.Unplayed.{Unplayed}
+use Rattle.player.specs.declared.Unplayed.TheVariants.{Short, Unreadable}
 use Rattle.player.specs.Play.{Entry, entry_words, outcome_words, commands_of, words_of, Chain, done, next, Since, noted, since, Standing}
 use Rattle.player.specs.Play.{commands, AllPost, DonePost, PlayPost, entries_of}
 use Rattle.player.proofs.Passes.{some_inj, Passed, passed_none, passed-next, passed-all, passed-left}
@@ -174,11 +175,11 @@ all_done {cs = cs} p e i = record {
 -- ---- one `play` after the other
 
 -- whatever it came to: a list that was not played changes nothing
-pub play-stands : (bs w w' l l' : List ℕ) (x : Played) (p : PlayPost bs w w' l l' x) (before : Option Since) → Standing before w
+pub play-stands : (bs w w' l l' : List ℕ) (x : Result ℕ Unplayed) (p : PlayPost bs w w' l l' x) (before : Option Since) → Standing before w
     → Standing (since before (entries_of bs w w' l l' x p)) w'
-play-stands bs w w' l l' (played.Done k) p before h = p.1.stands before h
-play-stands bs w w' l l' played.Short p before h = subst (Standing before) (sym p.1.0) h
-play-stands bs w w' l l' played.Unreadable p before h = subst (Standing before) (sym p.1.0) h
+play-stands bs w w' l l' (Ok k) p before h = p.1.stands before h
+play-stands bs w w' l l' (Err Short) p before h = subst (Standing before) (sym p.1.0) h
+play-stands bs w w' l l' (Err Unreadable) p before h = subst (Standing before) (sym p.1.0) h
 
 since-both : (before : Option Since) (a b : List Entry) → since (since before a) b ≡ since before (a ++ b)
 since-both before [] b = refl
@@ -186,8 +187,8 @@ since-both before (e ∷ a) b = since-both (noted before e.command e.outcome) a 
 
 -- two lists played one after the other, and a call that stores nothing between them, have the whole claim of one list, since the last
 -- answered fresh in either or before both
-pub play_again : (bs w w' l l' : List ℕ) (x : Played) (p : PlayPost bs w w' l l' x) (v : List ℕ) → rests w' v → (cs w'' m m' : List ℕ)
-    (y : Played) (q : PlayPost cs v w'' m m' y)
+pub play_again : (bs w w' l l' : List ℕ) (x : Result ℕ Unplayed) (p : PlayPost bs w w' l l' x) (v : List ℕ) → rests w' v → (cs w'' m m' : List ℕ)
+    (y : Result ℕ Unplayed) (q : PlayPost cs v w'' m m' y)
     (before : Option Since) → Standing before w → (s : Since)
     → since before (entries_of bs w w' l l' x p ++ entries_of cs v w'' m m' y q) ≡ some s
     → Demand SoundWords seen asks s.n s.N s.events w''

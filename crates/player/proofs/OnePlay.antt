@@ -1,4 +1,5 @@
 -- Laws of what specs/OnePlay.antt defines. Assumes nothing.
+use Rattle.std.specs.Prelude.{Result, Ok, Err}
 use mathlib.Core.Path.{◌≡◌, refl, sym, ap, ap₂, ◌∙◌, subst}
 use mathlib.Core.Logic.{◌⊎◌, inl, inr, by_cases}
 use mathlib.Core.Bool.{true}
@@ -8,6 +9,7 @@ use Prim.Native.Nat.{ℕ, zero, suc}
 use native.Mathlib.Omega.{arith}
 use native.Mathlib.Decide.{ℕ_discrete}
 use lib.ListN.{length}
+use Rattle.std.specs.Prelude.{Ok}
 use Rattle.accounts.specs.declared.Terms.{Terms}
 use Rattle.layout.specs.View.{View}
 use Rattle.mucalculus.specs.Form.{no_env}
@@ -31,14 +33,13 @@ use Rattle.contract.proofs.Seen.{sound-table, any-words}
 use Rattle.contract.specs.Posts.{CallPost}
 use Rattle.contract.proofs.Answered.{count-means}
 use Rattle.contract.proofs.OneAnswer.{fresh-one}
-use Rattle.calls.specs.declared.Started.TheVariants.{Ready}
 use Rattle.calls.proofs.FreshLaws.{fresh-words-one}
 use Rattle.commands.specs.declared.Outcome.{Outcome}
 use Rattle.commands.specs.Obey.{Obeys, shown_reply, node_reply, Posted}
 use Rattle.commands.specs.OneOutcome.{OneOutcome}
 use Rattle.commands.proofs.OneOutcome.{plain-one, obey-one}
-use Rattle.player.specs.declared.Played.{Played}
-use Rattle.player.specs.declared.Played.TheVariants as played
+use Rattle.player.specs.declared.Unplayed.{Unplayed}
+use Rattle.player.specs.declared.Unplayed.TheVariants.{Short, Unreadable}
 use Rattle.player.specs.Play.{commands, Entry, commands_of, Chain, done, next, AllPost, DonePost, PlayPost}
 use Rattle.player.proofs.Chained.{commands-length}
 use Rattle.player.specs.OnePlay.{settled_words, settled_list}
@@ -171,7 +172,7 @@ step-one (call (set acc r R bs)) {a} {b} {v} {w} {x} {z} h p q =
 unsound-end : (c : Command) {a v w : List ℕ} {x z : Outcome} → (SoundWords a → ⊥) → Obeys c a v x → Obeys c a w z → v ≡ w
 unsound-end (start n N) {a} {v} {w} {x} {z} no-sound p q =
     let e = ap (λ (y : Reply). y.number) (fresh-one n N 1 p.posted.0 q.posted.0).0 in
-    by_cases (ℕ_discrete x.number 0) (λ i. fresh-words-one n N a v w Ready (p.posted.1 i) (q.posted.1 (sym e ∙ i)))
+    by_cases (ℕ_discrete x.number 0) (λ i. fresh-words-one n N a v w (Ok tt) (p.posted.1 i) (q.posted.1 (sym e ∙ i)))
     (λ k. (fresh-one n N 1 p.posted.0 q.posted.0).2 (omega arith))
 unsound-end (states r) n p q = p.posted.0 ∙ sym q.posted.0
 unsound-end (call c) n p q = (p.posted.0.performs.unsound n).1 ∙ sym (q.posted.0.performs.unsound n).1
@@ -212,14 +213,14 @@ obeyed : {bs w v l m : List ℕ} {k : ℕ} → DonePost bs w v l m k → (cs : L
 obeyed p cs e = p.count ∙ sym (commands-length p.all.entries) ∙ ap length (some_inj (sym p.all.read ∙ e))
 
 -- `play` itself: done with the same count, or refused alike
-pub play-one : (bs w v u l m n : List ℕ) (x z : Played) → PlayPost bs w v l m x → PlayPost bs w u l n z → x ≡ z
-play-one bs w v u l m n (played.Done k) (played.Done j) p q =
-    ap played.Done (obeyed p.1 _ q.1.all.read ∙ sym (obeyed q.1 _ q.1.all.read))
-play-one bs w v u l m n (played.Done k) played.Short p q = let ((cs, e, f), g) = q in absurd (omega (arith, p.0, f, obeyed p.1 cs e))
-play-one bs w v u l m n (played.Done k) played.Unreadable p q = absurd (none-some (sym q.0 ∙ p.1.all.read))
-play-one bs w v u l m n played.Short (played.Done k) p q = let ((cs, e, f), g) = p in absurd (omega (arith, q.0, f, obeyed q.1 cs e))
-play-one bs w v u l m n played.Short played.Short p q = refl
-play-one bs w v u l m n played.Short played.Unreadable p q = absurd (none-some (sym q.0 ∙ p.0.1))
-play-one bs w v u l m n played.Unreadable (played.Done k) p q = absurd (none-some (sym p.0 ∙ q.1.all.read))
-play-one bs w v u l m n played.Unreadable played.Short p q = absurd (none-some (sym p.0 ∙ q.0.1))
-play-one bs w v u l m n played.Unreadable played.Unreadable p q = refl
+pub play-one : (bs w v u l m n : List ℕ) (x z : Result ℕ Unplayed) → PlayPost bs w v l m x → PlayPost bs w u l n z → x ≡ z
+play-one bs w v u l m n (Ok k) (Ok j) p q =
+    ap Ok (obeyed p.1 _ q.1.all.read ∙ sym (obeyed q.1 _ q.1.all.read))
+play-one bs w v u l m n (Ok k) (Err Short) p q = let ((cs, e, f), g) = q in absurd (omega (arith, p.0, f, obeyed p.1 cs e))
+play-one bs w v u l m n (Ok k) (Err Unreadable) p q = absurd (none-some (sym q.0 ∙ p.1.all.read))
+play-one bs w v u l m n (Err Short) (Ok k) p q = let ((cs, e, f), g) = p in absurd (omega (arith, q.0, f, obeyed q.1 cs e))
+play-one bs w v u l m n (Err Short) (Err Short) p q = refl
+play-one bs w v u l m n (Err Short) (Err Unreadable) p q = absurd (none-some (sym q.0 ∙ p.0.1))
+play-one bs w v u l m n (Err Unreadable) (Ok k) p q = absurd (none-some (sym p.0 ∙ q.1.all.read))
+play-one bs w v u l m n (Err Unreadable) (Err Short) p q = absurd (none-some (sym p.0 ∙ q.0.1))
+play-one bs w v u l m n (Err Unreadable) (Err Unreadable) p q = refl

@@ -1,6 +1,8 @@
 -- Reading records one after the other: what was read so far, and what is left. Assumes nothing.
+use Rattle.std.specs.Prelude.{Some, None}
 use mathlib.Core.Path.{◌≡◌, refl, sym, ap, ◌∙◌, subst}
 use mathlib.Core.Bool.{true}
+use mathlib.Core.Logic.{◌⊎◌, inl, inr}
 use mathlib.Core.List.{List, [], ◌∷◌, ◌++◌, append-nil}
 use mathlib.Core.Option.{Option, none, some}
 use Prim.Native.Nat.{ℕ, zero, suc, ◌+◌, ◌-◌, ◌≤◌, ◌<◌}
@@ -10,6 +12,7 @@ use lib.Seq.{drop-drop}
 use borrow.Author.Rules.{part_to_end}
 use Rattle.book.specs.Program.{Command, record_length, command_at}
 use Rattle.records.specs.declared.Command as records
+use Rattle.records.specs.declared.Found.{Found}
 use Rattle.records.specs.declared.Found.TheVariants.{End, More, Bad, Record}
 use Rattle.records.specs.Record.{read_record}
 use Rattle.records.proofs.Promises.{record-read, end_read, more-read, bad_read}
@@ -148,12 +151,14 @@ passed-left {bs} {at} {cs} all p e l =
 
 -- ---- the size of a record
 
-pub size-record : (bs : List ℕ) (c : records.Command) (size : ℕ) → read_record bs true ≡ Record c size → SizePost bs size
+pub size-record : (bs : List ℕ) (c : records.Command) (size : ℕ) → read_record bs true ≡ Record c size → SizePost bs (Some size)
 size-record bs c size e =
     let r = record-read bs true c size e in
     record {
-      is = sym (ap (λ (m : Option Command). size_in m bs) (at-end (r.command-is [])) ∙ length-end (r.length-is []));
-      within = r.within;
+      is =
+          ap Some (sym (length-end (r.length-is [])))
+          ∙ sym (ap (λ (m : Option Command). size_in m bs) (at-end (r.command-is [])));
+      within = λ k i. let z : size ≡ k = cc in omega (arith, z, r.within);
     }
   where
     at-end : {m : Option Command} → command_at (bs ++ []) ≡ m → command_at bs ≡ m
@@ -162,50 +167,50 @@ size-record bs c size e =
     length-end : {k : ℕ} → 2 + record_length (bs ++ []) ≡ k → 2 + record_length bs ≡ k
     length-end i = ap (λ (l : List ℕ). 2 + record_length l) (sym (append-nil bs)) ∙ i
 
-size_none : (bs : List ℕ) → command_at bs ≡ none → SizePost bs 0
-size_none bs e = record { is = sym (ap (λ (m : Option Command). size_in m bs) e); within = omega arith }
+size_none : (bs : List ℕ) → command_at bs ≡ none → SizePost bs None
+size_none bs e = record { is = sym (ap (λ (m : Option Command). size_in m bs) e); within = λ k i. absurd cc }
 
 no_bytes : (bs : List ℕ) → length bs ≡ 0 → command_at bs ≡ none
 no_bytes [] h = refl
 no_bytes (x ∷ xs) h = absurd (omega arith)
 
-pub size-end : (bs : List ℕ) → read_record bs true ≡ End → SizePost bs 0
-size-end bs e = size_none bs (no_bytes bs (end_read bs true e).1)
+pub size-nothing : (bs : List ℕ) {x : Found} → x ≡ read_record bs true → (x ≡ End) ⊎ ((x ≡ More) ⊎ (x ≡ Bad)) → SizePost bs None
+size-nothing bs e (inl i) = size_none bs (no_bytes bs (end_read bs true (sym e ∙ i)).1)
+size-nothing bs e (inr (inl i)) = size_none bs (more-read bs true (sym e ∙ i)).2
+size-nothing bs e (inr (inr i)) = size_none bs (ap command_at (sym (append-nil bs)) ∙ (bad_read bs true (sym e ∙ i) [] (λ t. refl)).1)
 
-pub size-more : (bs : List ℕ) → read_record bs true ≡ More → SizePost bs 0
-size-more bs e = size_none bs (more-read bs true e).2
-
-pub size_bad : (bs : List ℕ) → read_record bs true ≡ Bad → SizePost bs 0
-size_bad bs e = size_none bs (ap command_at (sym (append-nil bs)) ∙ (bad_read bs true e [] (λ t. refl)).1)
-
--- a size that is not 0 is a record's
+-- a size is a record's
 pub record Sized (bs : List ℕ) (r : ℕ) : Type 0 where
   pub command : Command
   pub read : command_at bs ≡ some command
   pub size : r ≡ 2 + record_length bs
   pub within : r ≤ length bs
 
-pub size-some : (bs : List ℕ) (r : ℕ) → SizePost bs r → (r ≡ 0 → ⊥) → Sized bs r
-size-some bs r p l = go (command_at bs) refl p.is
+size-some : (bs : List ℕ) (r : ℕ) → SizePost bs (Some r) → Sized bs r
+size-some bs r p = go (command_at bs) refl p.is
   where
-    go : (m : Option Command) → command_at bs ≡ m → r ≡ size_in m bs → Sized bs r
-    go none e i = absurd (l i)
-    go (some c) e i = record { command = c; read = e; size = i; within = p.within }
+    go : (m : Option Command) → command_at bs ≡ m → Some r ≡ size_in m bs → Sized bs r
+    go none e i = absurd cc
+    go (some c) e i = record { command = c; read = e; size = cc; within = p.within r refl }
 
-pub size-zero : (bs : List ℕ) (r : ℕ) → SizePost bs r → r ≡ 0 → command_at bs ≡ none
-size-zero bs r p z = go (command_at bs) p.is
+no-size : (bs : List ℕ) → SizePost bs None → command_at bs ≡ none
+no-size bs p = go (command_at bs) p.is
   where
-    go : (m : Option Command) → r ≡ size_in m bs → m ≡ none
+    go : (m : Option Command) → None ≡ size_in m bs → m ≡ none
     go none i = refl
-    go (some c) i = absurd (omega arith)
+    go (some c) i = absurd cc
 
 -- ---- the bytes from a place to the end, as a part of the slice
 
 abbrev pub part : List ℕ → ℕ → List ℕ
 part bs at = take (length bs - at) (drop at bs)
 
-pub sized-at : (bs : List ℕ) (at r : ℕ) → SizePost (part bs at) r → SizePost (drop at bs) r
-sized-at bs at r = subst (λ (l : List ℕ). SizePost l r) (part_to_end bs at)
+-- the record read there, and that none was
+pub sized-at : (bs : List ℕ) (at : ℕ) {r : ℕ} → SizePost (part bs at) (Some r) → Sized (drop at bs) r
+sized-at bs at {r} p = size-some (drop at bs) r (subst (λ (l : List ℕ). SizePost l (Some r)) (part_to_end bs at) p)
+
+pub no-size-at : (bs : List ℕ) (at : ℕ) → SizePost (part bs at) None → command_at (drop at bs) ≡ none
+no-size-at bs at p = no-size (drop at bs) (subst (λ (l : List ℕ). SizePost l None) (part_to_end bs at) p)
 
 pub next-at : (bs : List ℕ) (at : ℕ) {w w' l l' : List ℕ} {place r : ℕ} → NextPost (part bs at) w w' l l' place r
     → NextPost (drop at bs) w w' l l' place r

@@ -1,6 +1,6 @@
 -- A whole list of calls given as records: which calls there are, what each leaves and returns, and the third demand's claim for them.
 -- Definitions alone.
-use Rattle.std.specs.Prelude.{◌≡◌, Bool, cond, List, [], ◌∷◌, ◌++◌, ℕ, zero, suc, ◌+◌, ◌*◌, ◌≤◌, ◌<◌, eqb, length, drop}
+use Rattle.std.specs.Prelude.{Option as Maybe, Some, None, Result, Ok, Err, ◌≡◌, Bool, cond, List, [], ◌∷◌, ◌++◌, ℕ, zero, suc, ◌+◌, ◌*◌, ◌≤◌, ◌<◌, eqb, length, drop}
 use Rattle.std.proofs.Math.Option.{Option, none, some}
 use Rattle.std.proofs.lemmas.List.Edits.{sets}
 use Rattle.book.specs.Program.{Command, start, call, states, record_length, command_at}
@@ -10,10 +10,8 @@ use Rattle.contract.specs.Seen.{seen, SoundWords}
 use Rattle.contract.specs.Closed.{makes, performs, rests, asks}
 use Rattle.commands.specs.declared.Outcome.{Outcome}
 use Rattle.commands.specs.Obey.{Obeys, reply_of}
-use Rattle.player.specs.declared.Counted.{Counted}
-use Rattle.player.specs.declared.Counted.TheVariants as counted
-use Rattle.player.specs.declared.Played.{Played}
-use Rattle.player.specs.declared.Played.TheVariants as played
+use Rattle.player.specs.declared.Unplayed.{Unplayed}
+use Rattle.player.specs.declared.Unplayed.TheVariants.{Short, Unreadable}
 
 -- ---- the calls of a byte slice
 
@@ -95,18 +93,18 @@ Standing (some s) w = Session (List ℕ) makes performs rests s.n s.N s.events w
 
 -- ---- what the functions promise
 
--- the size of the record at the front, 0 where none can be read
-abbrev pub size_in : Option Command → List ℕ → ℕ
-size_in none bs = 0
-size_in (some c) bs = 2 + record_length bs
+-- the size of the record at the front, none where none can be read
+abbrev pub size_in : Option Command → List ℕ → Maybe ℕ
+size_in none bs = None
+size_in (some c) bs = Some (2 + record_length bs)
 
-pub record SizePost (bs : List ℕ) (r : ℕ) : Type 0 where
+pub record SizePost (bs : List ℕ) (r : Maybe ℕ) : Type 0 where
   pub is : r ≡ size_in (command_at bs) bs
-  pub within : r ≤ length bs
+  pub within : (size : ℕ) → r ≡ Some size → size ≤ length bs
 
-abbrev pub CountPost : List ℕ → Counted → Type 0
-CountPost bs (counted.Records k) = (cs : List Command) × (commands bs ≡ some cs) × (length cs ≡ k)
-CountPost bs counted.Unreadable = commands bs ≡ none
+abbrev pub CountPost : List ℕ → Maybe ℕ → Type 0
+CountPost bs (Some k) = (cs : List Command) × (commands bs ≡ some cs) × (length cs ≡ k)
+CountPost bs None = commands bs ≡ none
 
 -- every record can be read
 abbrev pub Readable : List ℕ → Type 0
@@ -151,14 +149,14 @@ abbrev pub Unchanged : List ℕ → List ℕ → List ℕ → List ℕ → Type 
 Unchanged w w' l l' = (w' ≡ w) × (l' ≡ l)
 
 -- the list's room decides, once all records can be read
-abbrev pub PlayPost : List ℕ → List ℕ → List ℕ → List ℕ → List ℕ → Played → Type 0
-PlayPost bs w w' l l' (played.Done k) = (k * entry_words ≤ length l) × DonePost bs w w' l l' k
-PlayPost bs w w' l l' played.Short =
+abbrev pub PlayPost : List ℕ → List ℕ → List ℕ → List ℕ → List ℕ → Result ℕ Unplayed → Type 0
+PlayPost bs w w' l l' (Ok k) = (k * entry_words ≤ length l) × DonePost bs w w' l l' k
+PlayPost bs w w' l l' (Err Short) =
     ((cs : List Command) × (commands bs ≡ some cs) × (length l < length cs * entry_words)) × Unchanged w w' l l'
-PlayPost bs w w' l l' played.Unreadable = (commands bs ≡ none) × Unchanged w w' l l'
+PlayPost bs w w' l l' (Err Unreadable) = (commands bs ≡ none) × Unchanged w w' l l'
 
 -- the commands that were obeyed, with what they returned
-abbrev pub entries_of : (bs w w' l l' : List ℕ) (x : Played) → PlayPost bs w w' l l' x → List Entry
-entries_of bs w w' l l' (played.Done k) p = p.1.all.entries
-entries_of bs w w' l l' played.Short p = []
-entries_of bs w w' l l' played.Unreadable p = []
+abbrev pub entries_of : (bs w w' l l' : List ℕ) (x : Result ℕ Unplayed) → PlayPost bs w w' l l' x → List Entry
+entries_of bs w w' l l' (Ok k) p = p.1.all.entries
+entries_of bs w w' l l' (Err Short) p = []
+entries_of bs w w' l l' (Err Unreadable) p = []

@@ -11,23 +11,15 @@ use commands::{Outcome, Taken, sound_after, take_record};
 use records::{Found, read_record};
 use soundness::sound;
 
-// What a list of calls came to: so many records were obeyed; or, with nothing changed, there was no room for their outcomes or a record
-// could not be read.
+// Why a list of calls was not played, with nothing changed: there was no room for the outcomes, or a record could not be read.
 #[derive(Clone, Copy)]
-pub enum Played {
-    Done(usize),
+pub enum Unplayed {
     Short,
     Unreadable,
 }
 
-// How many records stand in the bytes.
-#[derive(Clone, Copy)]
-enum Counted {
-    Records(usize),
-    Unreadable,
-}
-
 // A record that was obeyed: its size, and whether the words are a sound table after it.
+// No Option: whether the words are sound says nothing of whether there is a size.
 #[derive(Clone, Copy)]
 struct Step {
     size: usize,
@@ -42,36 +34,28 @@ impl Entry {
     pub const WORDS: usize = 5;
 }
 
-// The size of the record at the front of the bytes, 0 where none can be read.
-fn record_size(bytes: &[u8]) -> usize
+// The size of the record at the front of the bytes, none where none can be read.
+fn record_size(bytes: &[u8]) -> Option<usize>
     ensures { SizePost bytes.now result }
 {
     match read_record(bytes, true) {
-        Found::Record {
-            command: _,
-            size: size,
-        } => size,
-        Found::End => 0,
-        Found::More => 0,
-        Found::Bad => 0,
+        Found::Record { size, .. } => Some(size),
+        Found::End | Found::More | Found::Bad => None,
     }
 }
 
-// How many records there are, one after the other.
-fn count_records(bytes: &[u8]) -> Counted
+// How many records there are, one after the other; none where one cannot be read.
+fn count_records(bytes: &[u8]) -> Option<usize>
     ensures { CountPost bytes.now result }
 {
     let mut at = 0;
     let mut count = 0;
+    // Not a for: how long a record is, it says.
     while at < bytes.len() {
-        let size = record_size(&bytes[at..]);
-        if size == 0 {
-            return Counted::Unreadable;
-        }
-        at += size;
+        at += record_size(&bytes[at..])?;
         count += 1;
     }
-    Counted::Records(count)
+    Some(count)
 }
 
 // Writes an outcome to the list.
@@ -123,19 +107,19 @@ fn obey_all(words: &mut [u32], bytes: &[u8], list: &mut [u32])
     }
 }
 
-// Plays the calls of all records in order, and writes number, node, rounds, value and peak of each to the list.
-pub fn play(words: &mut [u32], bytes: &[u8], list: &mut [u32]) -> Played
+// Plays the calls of all records in order, writes number, node, rounds, value and peak of each to the list, and answers how many they were.
+pub fn play(words: &mut [u32], bytes: &[u8], list: &mut [u32]) -> Result<usize, Unplayed>
     ensures { PlayPost bytes.now words.old words.new list.old list.new result }
 {
-    let Counted::Records(count) = count_records(bytes) else {
-        return Played::Unreadable;
+    let Some(count) = count_records(bytes) else {
+        return Err(Unplayed::Unreadable);
     };
     if list.len() / Entry::WORDS < count {
-        return Played::Short;
+        return Err(Unplayed::Short);
     }
     if count == 0 {
-        return Played::Done(0);
+        return Ok(0);
     }
     obey_all(words, bytes, list);
-    Played::Done(count)
+    Ok(count)
 }

@@ -4,11 +4,10 @@ use mathlib.Core.Bool.{Bool, true, false, cond}
 use mathlib.Core.List.{List, [], ◌∷◌, ◌++◌, append_assoc}
 use Prim.Native.Nat.{ℕ, zero, suc, ◌+◌, ◌/◌, ◌%◌, ◌^◌, ◌≤◌, ◌<◌}
 use native.Mathlib.Nat.{pow-suc}
-use native.Mathlib.Numerals.{add-one}
 use native.Mathlib.Omega.{arith}
 use lib.Dec.{ltb}
-use lib.ListN.{length, get_or, set, take, drop, length-append}
-use lib.Seq.{sets, sets-eq, take-suc, take_all, take_at, length-take-le}
+use lib.ListN.{length, set, take, drop, length-append}
+use lib.Seq.{sets, sets-eq, take_at, length-take-le}
 use borrow.Author.Tests.{lt-ltb, le-ltb}
 use Rattle.book.specs.Program.{Line, end_ok, end_bad, fields, digits, decimal, text_of}
 use Rattle.records.specs.Text.{Wrote, WroteWithin, end_line, field_text}
@@ -48,20 +47,6 @@ wrote_byte l i b = record { contents = refl; past = omega arith }
 -- nothing yet of a text
 pub wrote_none : (l : List ℕ) (i : ℕ) → Wrote l i [] l (i + 0)
 wrote_none l i = record { contents = refl; past = refl }
-
--- one byte more of a text
-pub wrote-turn : {l m : List ℕ} {i : ℕ} (k : ℕ) (xs : List ℕ) → k < length xs → Wrote l i (take k xs) m (i + k)
-    → Wrote l i (take (k + 1) xs) (set m (i + k) (get_or xs k 0)) (i + (k + 1))
-wrote-turn {l} {m} {i} k xs h w =
-    let b = wrote_then (take k xs) (get_or xs k 0 ∷ []) w (wrote_byte m (i + k) (get_or xs k 0)) in
-    let e : i + k + 1 ≡ i + (k + 1) = omega arith in
-    subst (λ (x : ℕ). Wrote l i (take (k + 1) xs) (set m (i + k) (get_or xs k 0)) x) e
-    (subst (λ (ys : List ℕ). Wrote l i ys (set m (i + k) (get_or xs k 0)) (i + k + 1))
-    (sym (take-suc xs k 0 h) ∙ ap (λ (j : ℕ). take j xs) (sym (add-one k))) b)
-
--- the whole text
-pub wrote-all : {l m : List ℕ} {i : ℕ} (k : ℕ) (xs : List ℕ) → length xs ≤ k → Wrote l i (take k xs) m (i + k) → Wrote l i xs m (i + k)
-wrote-all {l} {m} {i} k xs h w = subst (λ (ys : List ℕ). Wrote l i ys m (i + k)) (take_all k xs h) w
 
 -- ---- decimals
 

@@ -18,6 +18,7 @@ pub enum Command {
 }
 
 // What stands in the bytes at hand: nothing more, a record of which more bytes are needed, none that can be read, or a whole record.
+// No Result of an Option: end and more are no failures, and none of the four is handed on.
 #[derive(Clone, Copy)]
 pub enum Found {
     End,
@@ -201,6 +202,7 @@ pub fn read_record(bytes: &[u8], ended: bool) -> Found
 }
 
 // Writes a number in decimal, and answers the place after it; there is room for a byte after ten digits.
+// No Display: the contract says the very bytes and where they stand, in room that is lent.
 fn write_number(out: &mut [u8], at: usize, x: u32) -> usize
     requires { at + 11 ≤ length out.old }
     ensures { WroteWithin 10 out.old at (decimal x) out.new result }
@@ -240,12 +242,9 @@ fn write_text(out: &mut [u8], at: usize, text: &[u8]) -> usize
     requires { at + length text.now ≤ length out.old }
     ensures { Wrote out.old at text.now out.new result }
 {
-    let mut i = 0;
-    while i < text.len() {
-        out[at + i] = text[i];
-        i += 1;
-    }
-    at + i
+    let end = at + text.len();
+    out[at..end].copy_from_slice(text);
+    end
 }
 
 // Writes the last line, and answers the place after it.

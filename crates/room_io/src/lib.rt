@@ -16,6 +16,7 @@ use std::io::{self, Read, Write};
 // How far the program is: the bytes at hand stand in the input buffer from `start` to `end`, and `pending` bytes at the front of the output
 // buffer are still to be written. `ended`: no more bytes will come. `done`: the last line is written, or a read or a write failed.
 // `sound`: the words are a sound table.
+// No Option: each flag is a fact of its own, and no value hangs on it.
 #[derive(Clone, Copy)]
 pub struct Progress {
     pub start: usize,
@@ -27,6 +28,7 @@ pub struct Progress {
 }
 
 // What a read brought: so many bytes, the end of the input, or nothing, as it failed.
+// No Result of an Option: each of the three has an arm of its own in after_read, and none is handed on.
 #[derive(Clone, Copy)]
 pub enum Brought {
     Bytes(usize),
@@ -60,13 +62,8 @@ fn to_front(input: &mut [u8], start: usize, end: usize) -> usize
     requires { (start ≤ end) × (end ≤ length input.old) }
     ensures { (result ≡ end - start) × (take result input.new ≡ take result (drop start input.old)) }
 {
-    let held = end - start;
-    let mut i = 0;
-    while i < held {
-        input[i] = input[start + i];
-        i += 1;
-    }
-    held
+    input.copy_within(start..end, 0);
+    end - start
 }
 
 // How far the program is once `held` bytes stand at the front and a read behind them brought what it did.
@@ -214,6 +211,7 @@ fn serve(
         sound: false,
     };
     let mut turns = u64::MAX;
+    // Not a for: it ends where p is done; the turns are counted only so that it ends at all.
     while turns > 0 && !p.done {
         p = turn(reader, writer, words, input, output, p);
         turns -= 1;

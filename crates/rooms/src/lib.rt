@@ -10,6 +10,7 @@ use records::{Text, write_end, write_line};
 
 // What was said: a line for so many bytes, written at the front of the room; the last line; that more bytes are needed; or that the room is
 // shorter than a line.
+// No Result: none of the four is a failure.
 #[derive(Clone, Copy)]
 pub enum Said {
     Line { used: usize, written: usize },
@@ -19,6 +20,7 @@ pub enum Said {
 }
 
 // An answer: what was said, and whether the words are a sound table after it.
+// No Option: whether the words are sound says nothing of what was said.
 #[derive(Clone, Copy)]
 pub struct Reply {
     pub said: Said,

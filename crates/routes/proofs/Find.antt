@@ -7,14 +7,17 @@ use native.Mathlib.Omega.{arith}
 use lib.Dec.{T}
 use lib.ListN.{length, set}
 use lib.Pow.{pow_mono}
+use Rattle.std.specs.Prelude.{Option, None, Result, Ok, Err}
 use Rattle.mucalculus.specs.Sets.{mem}
 use Rattle.mucalculus.proofs.Sets.{and_out}
 use Rattle.layout.specs.View.{View}
+use Rattle.layout.specs.declared.Refusal.{Refusal}
 use Rattle.layout.specs.declared.Refusal.TheVariants as refusal
 use Rattle.diagram.specs.Post.{Denotes}
 use Rattle.diagram.specs.Keep.{Keeps}
 use Rattle.diagram.proofs.Keep.{keeps_trans}
 use Rattle.rows.specs.Used.{rows_of}
+use Rattle.table.specs.declared.Full.{Full}
 use Rattle.book.specs.Bridge.{fn_of}
 use Rattle.book.specs.Run.{fit}
 use Rattle.modal.proofs.Chain.{moved_trans, base-bits}
@@ -26,12 +29,10 @@ use Rattle.paths.proofs.Exact.{first_pass}
 use Rattle.layers.specs.Scene.{Scene, layer_of, needs_of}
 use Rattle.layers.proofs.Scene.{filled-same}
 use Rattle.layers.specs.Pass.{PassPre, PassPost, Passed, Steps, last_of}
-use Rattle.layers.specs.declared.Reached.{Reached}
-use Rattle.layers.specs.declared.Reached.TheVariants as reached
+use Rattle.layers.proofs.Pass.{met}
+use Rattle.layers.specs.declared.Meeting.{Meeting}
 use Rattle.routes.proofs.Write.{put_written, start-later, scene-later, steps-start, state-small}
 use Rattle.routes.specs.Write.{Onward, WritePre, WritePost}
-use Rattle.routes.specs.declared.Found.{Found}
-use Rattle.routes.specs.declared.Found.TheVariants as answer
 use Rattle.routes.specs.Find.{Told, RunPre, RunTold, is_written, is-short, run_of, RunPost, FindPost}
 
 -- ---- the run from its first state
@@ -45,14 +46,14 @@ module _ {n N limit : ℕ} {W : View} {t b d s : ℕ} (p : RunPre n N limit W t 
       state-small p.start.base
       (run-lt (2 ^ n) p.scene.R p.scene.B s (onward (2 ^ n) p.scene.R p.scene.B d s) p.ready.1)
 
-  pub run_short : {old : List ℕ} → length old ≤ d → RunPost n limit W W t b d s old old (answer.Refused refusal.Short)
+  pub run_short : {old : List ℕ} → length old ≤ d → RunPost n limit W W t b d s old old (Err refusal.Short)
   run_short {old} l S r = record { steps = steps-start p.start; told = is-short (let e = run-size S d s in omega arith) }
 
   pub run-asks : {list : List ℕ} → d < length list → WritePre n N limit W t b d s list
   run-asks l = record { start = p.start; scene = p.scene; ready = p.ready; room = l }
 
   pub run-written : {X : View} (old : List ℕ) {new : List ℕ} → d < length old → WritePost n limit W X t b d s (set old 0 s) new
-      → RunPost n limit W X t b d s old new (answer.States (d + 1))
+      → RunPost n limit W X t b d s old new (Ok (d + 1))
   run-written {X} old {new} l w S r =
       let v = w S r in
       let e = run-size S d s in
@@ -61,8 +62,8 @@ module _ {n N limit : ℕ} {W : View} {t b d s : ℕ} (p : RunPre n N limit W t 
         told =
             let q : d + 1 ≡ length (run_of S d s) = omega arith in
             let w = v.list ∙ put_written (run_of S d s) old (omega arith) in
-            subst (λ (c : ℕ). RunTold (run_of S d s) old new (answer.States c)) (sym q)
-            (subst (λ (m : List ℕ). RunTold (run_of S d s) old m (answer.States (length (run_of S d s)))) (sym w)
+            subst (λ (c : ℕ). RunTold (run_of S d s) old new (Ok c)) (sym q)
+            (subst (λ (m : List ℕ). RunTold (run_of S d s) old m (Ok (length (run_of S d s)))) (sym w)
             (is_written (omega arith)));
       }
 
@@ -97,7 +98,7 @@ module _ {n : ℕ} {W : View} {t b : ℕ} (limit : ℕ) (S : Scene n W t b) (A :
   pub outcome-found : fit limit (needs_of S (last_of S A)) ≡ true → some ≡ true → length whole ≤ room → out ≡ found whole
   outcome-found e m l = decided-found fits some whole room (pass ∙ e) m l
 
-pub told-by : {o o' : Outcome} {r : Found} {old new : List ℕ} → o ≡ o' → Told o' r old new → Told o r old new
+pub told-by : {o o' : Outcome} {r : Result ℕ Refusal} {old new : List ℕ} → o ≡ o' → Told o' r old new → Told o r old new
 told-by {r = r} {old = old} {new = new} e h = subst (λ (x : Outcome). Told x r old new) (sym e) h
 
 -- steps after steps
@@ -108,17 +109,17 @@ steps_then {W = W} {X = X} {Y = Y} p q = record {
 }
 
 module _ {n N limit : ℕ} {W : View} {t a b : ℕ} (p : PassPre n N limit W t a b)
-    {X : View} {r : Reached} (q : PassPost n limit W X t a b r) where
-  ended : {u : Reached} → r ≡ u → (S : Scene n W t b) (A : List Bool) → Denotes (2 * n) (rows_of W) a (fn_of n A)
+    {X : View} {r : Result (Option Meeting) Full} (q : PassPost n limit W X t a b r) where
+  ended : {u : Result (Option Meeting) Full} → r ≡ u → (S : Scene n W t b) (A : List Bool) → Denotes (2 * n) (rows_of W) a (fn_of n A)
       → Passed n limit W X t b S A u
-  ended e S A from = subst (λ (u : Reached). Passed n limit W X t b S A u) e (q S A from)
+  ended e S A from = subst (λ (u : Result (Option Meeting) Full). Passed n limit W X t b S A u) e (q S A from)
 
-  pub find-full : {old : List ℕ} → r ≡ reached.Full → FindPost n limit W X t a b old old (answer.Refused refusal.Full)
+  pub find-full : {old : List ℕ} → r ≡ Err (record {}) → FindPost n limit W X t a b old old (Err refusal.Full)
   find-full {old} e S A from =
       let h = ended e S A from in
       record { steps = h.steps; told = told-by (outcome-full limit S A (length old) h.ends) (record { reply = refl; list = refl }) }
 
-  pub find_none : {old : List ℕ} → r ≡ reached.Nothing → FindPost n limit W X t a b old old (answer.Refused refusal.NoRun)
+  pub find_none : {old : List ℕ} → r ≡ Ok None → FindPost n limit W X t a b old old (Err refusal.NoRun)
   find_none {old} e S A from =
       let h = ended e S A from in
       record {
@@ -127,7 +128,7 @@ module _ {n N limit : ℕ} {W : View} {t a b : ℕ} (p : PassPre n N limit W t a
         told = told-by (outcome-none limit S A (length old) h.ends.1 h.ends.0) (record { reply = refl; list = refl });
       }
 
-  module _ {d s : ℕ} (e : r ≡ reached.At d s) where
+  module _ {d s : ℕ} (e : r ≡ met d s) where
     -- the first state and what follows it
     whole_is : (S : Scene n W t b) (A : List Bool) → Denotes (2 * n) (rows_of W) a (fn_of n A)
         → run_of S d s ≡ route (2 ^ n) S.R A S.B (last_of S A)
@@ -148,7 +149,7 @@ module _ {n N limit : ℕ} {W : View} {t a b : ℕ} (p : PassPre n N limit W t a
           subst (λ (u : ℕ). T (runs_into k S.R S.B u (onward k S.R S.B d u))) (sym h.3) g1,
         )
 
-    own : Passed n limit W X t b p.scene p.A (reached.At d s)
+    own : Passed n limit W X t b p.scene p.A (met d s)
     own = ended e p.scene p.A p.from
 
     pub find-asks : RunPre n N limit X t b d s
@@ -162,7 +163,7 @@ module _ {n N limit : ℕ} {W : View} {t a b : ℕ} (p : PassPre n N limit W t a
           omega (arith, own.ends.0);
     }
 
-    run-told : {o : Outcome} (S : Scene n W t b) (A : List Bool) (old : List ℕ) {new : List ℕ} {y : Found}
+    run-told : {o : Outcome} (S : Scene n W t b) (A : List Bool) (old : List ℕ) {new : List ℕ} {y : Result ℕ Refusal}
         → fit limit (needs_of S (last_of S A)) ≡ true → meets (2 ^ n) A (layer_of S (last_of S A)) ≡ true
         → RunTold (route (2 ^ n) S.R A S.B (last_of S A)) old new y → outcome n limit S.fs S.R A S.B (length old) ≡ o
         → Told o y old new
@@ -171,7 +172,7 @@ module _ {n N limit : ℕ} {W : View} {t a b : ℕ} (p : PassPre n N limit W t a
     run-told S A old f m (is-short h) z =
         told-by (sym z ∙ outcome-short limit S A (length old) f m h) (record { reply = refl; list = refl })
 
-    pub find_run_lem : {Y : View} (old : List ℕ) {new : List ℕ} {y : Found} → RunPost n limit X Y t b d s old new y
+    pub find_run_lem : {Y : View} (old : List ℕ) {new : List ℕ} {y : Result ℕ Refusal} → RunPost n limit X Y t b d s old new y
         → FindPost n limit W Y t a b old new y
     find_run_lem {Y} old {new} {y} v S A from =
         let h = ended e S A from in

@@ -1,8 +1,8 @@
 -- What the writing of a run asks of the words and the list and promises of them, by name. Assumes nothing.
-use Rattle.std.specs.Prelude.{List, ℕ}
+use Rattle.std.specs.Prelude.{List, ℕ, Result}
+use Rattle.layout.specs.declared.Refusal.{Refusal}
 use Rattle.modal.specs.declared.Limits.{Limits}
 use Rattle.modal.specs.Posts.{view_in, Counted}
-use Rattle.routes.specs.declared.Found.{Found}
 use Rattle.routes.specs.Write.{PlacePre, PlacePost, WritePre, WritePost}
 use Rattle.routes.specs.Find.{RunPre, RunPost, FindPost}
 
@@ -33,9 +33,9 @@ module _ (l : Limits) (before after old new : List ℕ) (relation : ℕ) where
   WriteGives b d first = WritePost l.bits l.limit (view_in l before) (view_in l after) relation b d first old new
 
   -- the run from the first state is written, or the list is too short
-  abbrev pub RunGives : (b d first : ℕ) (found : Found) → Type 0
+  abbrev pub RunGives : (b d first : ℕ) (found : Result ℕ Refusal) → Type 0
   RunGives b d first found = RunPost l.bits l.limit (view_in l before) (view_in l after) relation b d first old new found
 
   -- a shortest run from a into b is written, or why none is
-  abbrev pub FindGives : (a b : ℕ) (found : Found) → Type 0
+  abbrev pub FindGives : (a b : ℕ) (found : Result ℕ Refusal) → Type 0
   FindGives a b found = FindPost l.bits l.limit (view_in l before) (view_in l after) relation a b old new found

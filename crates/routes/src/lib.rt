@@ -4,17 +4,10 @@
 ghost use Rattle.routes.specs.Posts.{PlaceAsks, PlaceGives, WriteAsks, WriteGives, RunAsks, RunGives, FindGives};
 ghost use Rattle.layers.specs.Posts.{PassAsks};
 
-use layers::{Reached, make_layer, reach};
+use layers::{make_layer, reach};
 use layout::Refusal;
 use modal::Limits;
 use seek::least_next;
-
-// What the call for a run answers: how many states it has.
-#[derive(Clone, Copy)]
-pub enum Found {
-    States(u32),
-    Refused(Refusal),
-}
 
 // Writes the least next state of s in the set x, of which there is one, at a place of the list, and answers it.
 pub fn write_next(
@@ -50,10 +43,8 @@ fn write_on(
         relation b d first }
 {
     let mut s = first;
-    let mut left = d;
     let mut at = 1;
-    while 0 < left {
-        left -= 1;
+    for left in (0..d).rev() {
         let x = make_layer(words, counts, limits, relation, b, left);
         s = write_next(words, list, limits, relation, s, x, at);
         at += 1;
@@ -70,20 +61,21 @@ fn write_run(
     b: u32,
     d: u32,
     first: u32,
-) -> Found
+) -> Result<u32, Refusal>
     requires { RunAsks limits words.old counts.old relation b d first }
     ensures { RunGives limits words.old words.new list.old list.new
         relation b d first result }
 {
     if list.len() <= d as usize {
-        return Found::Refused(Refusal::Short);
+        return Err(Refusal::Short);
     }
     list[0] = first as u16;
     write_on(words, counts, list, limits, relation, b, d, first);
-    Found::States(d + 1)
+    Ok(d + 1)
 }
 
-// Finds the shortest run from a into b that is least at each place, and writes it; the list is kept where there is none or it is too short.
+// Finds the shortest run from a into b that is least at each place, and writes it; answers how many states it has.
+// The list is kept where there is none or it is too short.
 pub fn find_run(
     words: &mut [u32],
     counts: &mut [u32],
@@ -92,14 +84,13 @@ pub fn find_run(
     relation: u32,
     a: u32,
     b: u32,
-) -> Found
+) -> Result<u32, Refusal>
     requires { PassAsks limits words.old counts.old relation a b }
     ensures { FindGives limits words.old words.new list.old list.new relation a b result }
 {
-    let reached = reach(words, counts, limits, relation, a, b);
+    let reached = reach(words, counts, limits, relation, a, b)?;
     match reached {
-        Reached::At(d, s) => write_run(words, counts, list, limits, relation, b, d, s),
-        Reached::Nothing => Found::Refused(Refusal::NoRun),
-        Reached::Full => Found::Refused(Refusal::Full),
+        Some(at) => write_run(words, counts, list, limits, relation, b, at.layer, at.state),
+        None => Err(Refusal::NoRun),
     }
 }

@@ -120,16 +120,10 @@ pub fn mark(words: &[u32], rows: u32, marks: &mut [u32], a: u32)
     requires { MarkPre (view rows words.now) (length marks.old) a }
     ensures { Marks (rows_of (view rows words.now)) marks.old marks.new a }
 {
-    if !is_row(a) {
-        return;
-    }
-    if marked(marks, row_of(a)) {
-        return;
-    }
-    mark_row(words, rows, marks, a);
+    mark_part(words, rows, marks, a);
 }
 
-// `mark` of an arrow of a row. It is apart, so that it is inlined in `mark_row`: an arrow with nothing to mark costs no call.
+// The body of `mark`, also for an arrow of a row. Apart, so that it is inlined in `mark_row`: one with nothing to mark costs no call.
 #[cycle(mark_part_mark_row)]
 fn mark_part(words: &[u32], rows: u32, marks: &mut [u32], a: u32)
     requires { MarkPre (view rows words.now) (length marks.old) a }
@@ -146,6 +140,7 @@ fn mark_part(words: &[u32], rows: u32, marks: &mut [u32], a: u32)
 
 // Marks the rows that an arrow to a row reaches.
 #[cycle(mark_part_mark_row)]
+#[inline(never)]
 fn mark_row(words: &[u32], rows: u32, marks: &mut [u32], a: u32)
     requires { MarkPre (view rows words.now) (length marks.old) a × (is_row a ≡ true) }
     ensures { Marks (rows_of (view rows words.now)) marks.old marks.new a }
@@ -172,9 +167,7 @@ pub fn mark_refs(words: &[u32], rows: u32, marks: &mut [u32], from: usize, to: u
     requires { RefsPre (view rows words.now) (length marks.old) from to }
     ensures { MarksHeld rows words.now marks.old marks.new from to }
 {
-    let mut k = from;
-    while k < to {
+    for k in from..to {
         mark_ref(words, rows, marks, header_word(words, k));
-        k += 1;
     }
 }

@@ -2,7 +2,7 @@
 use mathlib.Core.Path.{◌≡◌, refl, sym, ap, ◌∙◌}
 use mathlib.Core.Logic.{◌≢◌}
 use mathlib.Core.Bool.{Bool, true, false, cond, not, ◌&&◌, true≢false}
-use Prim.Native.Nat.{ℕ, ◌+◌, ◌*◌, ◌<◌}
+use Prim.Native.Nat.{ℕ, ◌*◌}
 use native.Mathlib.Omega.{arith}
 use Rattle.layout.specs.Places.{BITS, LEVEL}
 use Rattle.layout.specs.View.{View}
@@ -10,14 +10,13 @@ use Rattle.layout.specs.Arrows.{is_row, row_of}
 use Rattle.diagram.specs.Rows.{follow}
 use Rattle.diagram.proofs.Den.{den-zero}
 use Rattle.rows.specs.Used.{rows_of}
-use Rattle.rows.specs.Mark.{depth}
 use Rattle.book.specs.States.{pair_val}
 use Rattle.paths.specs.Runs.{first_of}
 use Rattle.paths.proofs.First.{first-none}
 use Rattle.seek.specs.Walk.{HoldsPre, holds_at}
 use Rattle.seek.proofs.Walk.{child-pre, walk-child}
 use Rattle.seek.specs.Search.{in_both}
-use Rattle.seek.specs.Apart.{level_at, OneOf, first, second, Followed, Apart}
+use Rattle.seek.specs.Apart.{level_at, Followed, Apart}
 
 module _ (W : View) where
   level-row : {i : ℕ} (a : ℕ) → is_row a ≡ true → i ≡ row_of a → level_at W a ≡ W.cell i LEVEL
@@ -71,18 +70,6 @@ module _ (W : View) where
       none : (x : Bool) → (x && false) ≡ false
       none true = refl
       none false = refl
-
-  -- the two levels together fall
-  pub pair-less : {l m k x y : ℕ} {high : Bool} (a b : ℕ) → l ≡ level_at W a → m ≡ level_at W b → OneOf l m k → k ≢ 32 → Followed W a k high x
-      → Followed W b k high y
-      → depth W x + depth W y < depth W a + depth W b
-  pair-less a b el em first n f g = let p = f.less n el in let q = g.most in omega arith
-  pair-less a b el em second n f g = let p = f.most in let q = g.less n em in omega arith
-
-  -- so a call for what is followed is one nearer the end
-  pub pair_called : {x y d t : ℕ} → depth W x + depth W y < d → d ≡ t → HoldsPre W x → HoldsPre W y
-      → (depth W x + depth W y < t) × (HoldsPre W x × HoldsPre W y)
-  pair_called l e p q = (omega arith, (p, q))
 
   -- both halves share no state
   pub apart-both : {l x y z w : ℕ} {p r : Bool} (a b : ℕ) → Followed W a l false x → Followed W b l false y → Followed W a l true z

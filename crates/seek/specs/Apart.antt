@@ -13,11 +13,6 @@ use Rattle.seek.specs.Search.{in_both}
 abbrev pub level_at : View → ℕ → ℕ
 level_at W a = cond (is_row a) (W.cell (row_of a) LEVEL) 32
 
--- one of two numbers
-pub data OneOf (l m : ℕ) : ℕ → Type 0 where
-  first : OneOf l m l
-  second : OneOf l m m
-
 -- x is the arrow that is followed from a where the bit at level l is known
 pub record Followed (W : View) (a l : ℕ) (high : Bool) (x : ℕ) : Type 0 where
   pub pre : HoldsPre W x

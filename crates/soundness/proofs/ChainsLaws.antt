@@ -1,4 +1,4 @@
--- Laws of what specs/Chains.antt defines. Assumes nothing.
+-- Where every walk meets its row and no two rows are equal, every lookup finds its row, and back. Assumes nothing.
 use mathlib.Core.Path.{◌≡◌, refl, sym, ap, ◌∙◌, subst}
 use mathlib.Core.Bool.{Bool, true}
 use mathlib.Core.Logic.{◌≢◌, by_cases}
@@ -18,15 +18,6 @@ use Rattle.soundness.specs.Checks.{Finds}
 use Rattle.soundness.specs.Triples.{triple, Ready, AllDiffer}
 use Rattle.soundness.proofs.Triples.{ready-used, triple-has, has-triple}
 use Rattle.soundness.specs.Heights.{below, Passes, here, on, AllMet}
-use Rattle.soundness.specs.declared.chains.Part.{Part}
-use Rattle.soundness.specs.declared.chains.Part.TheVariants.{Met, Differ, Both}
-use Rattle.soundness.specs.Chains.{Holds}
-
--- how many parts a part is made of, beside itself
-abbrev pub inner : Part → ℕ
-inner Met = 0
-inner Differ = 0
-inner Both = 1
 
 module _ {W : View} {n : ℕ} (c : Ready W n) where
   place : (i : ℕ) → used W i ≡ true → W.cell i RANK < n
@@ -90,5 +81,5 @@ module _ {W : View} {n : ℕ} (c : Ready W n) where
       sym (rank x l) ∙ ap (λ (i : ℕ). W.cell i RANK) z ∙ rank y k
 
   -- both parts tell whether every lookup finds its row
-  pub both_tell : {r : Bool} → Says (Holds W n Both) r → Says ((k : ℕ) → k < n → Finds W (W.list k)) r
+  pub both_tell : {r : Bool} → Says (AllMet W n × AllDiffer W n) r → Says ((k : ℕ) → k < n → Finds W (W.list k)) r
   both_tell = says_map (λ q. met_finds q.0 q.1) (λ q. (finds_met q, finds_differ q))

@@ -30,19 +30,11 @@ use Rattle.rows.specs.Within.{den_of, valid_of, Within}
 use Rattle.rows.specs.Sound.{Good, EvenSets}
 use Rattle.soundness.specs.Apart.{lift, Apart, Half}
 use Rattle.soundness.proofs.ApartLaws.{lift-none, half-past, half-here}
-use Rattle.soundness.specs.declared.within.Pass.{Pass}
-use Rattle.soundness.specs.declared.within.Pass.TheVariants.{Now, Next, Both}
 use Rattle.rows.specs.Roots.{Ref}
 use Rattle.rows.proofs.Roots.{ref-arrow}
 use Rattle.soundness.specs.Tables.{SETS, Known, Sets}
 use Rattle.soundness.proofs.TablesLaws.{known-none, sets-none}
-use Rattle.soundness.specs.Contained.{AllApart, Clear, Lists, Asks, Against, Tells, Deep, RootsPre, RefsPre, Halved}
-
--- how many parts a part is made of, beside itself
-abbrev pub among : Pass → ℕ
-among Now = 0
-among Next = 0
-among Both = 1
+use Rattle.soundness.specs.Contained.{AllApart, Lists, Asks, Against, Tells, Deep, RootsPre, RefsPre, PassPre, Halved}
 
 -- a row that an arrow leads to
 pub record RowAt (W : View) (a : ℕ) : Type 0 where
@@ -177,6 +169,19 @@ against-not W v g = record {
       λ x y h. den-flip (2 * W.header BITS) (rows_of W) v x ∙ ap not (g.reads x y h) ∙ sym (den-flip (2 * W.header BITS) (rows_of W) v y);
 }
 
+-- what each of the two passes asks, for NOT V
+pub roots-not : {W : View} {v s start : ℕ} → PassPre W v → s ≤ 1 → FIRST_REGISTER ≤ start → start ≤ ROOTS_END
+    → RootsPre W s start ROOTS_END (flip v)
+roots-not {W} {v} p h lo hi = record {
+  good = p.good;
+  shift = h;
+  against = against-not W v p.against;
+  order = hi;
+  some = omega arith;
+  within = omega arith;
+  refs = λ k a b. p.refs k (omega arith) b;
+}
+
 -- as `halve` gives them
 pub halved_here : {own other i x y lo hi : ℕ} (W : View) (a : ℕ) → own ≤ other → i ≡ row_of a → x ≡ W.cell i LOW → y ≡ W.cell i HIGH
     → lo ≡ carry (marked a) x → hi ≡ carry (marked a) y → Halved (rows_of W) a own other lo hi
@@ -228,5 +233,6 @@ module _ (W : View) (v : ℕ) where
   pub of_shifted : Within W v → AllApart W 1 FIRST_RELATION ROOTS_END (flip v)
   of_shifted w h lo hi a e = shifted-apart W v a (w.shifted h lo hi a e)
 
-  pub both_tell : {r : Bool} → Says (Clear W (flip v) Both) r → Says (Within W v) r
+  pub both_tell : {r : Bool} → Says (AllApart W 0 FIRST_REGISTER ROOTS_END (flip v) × AllApart W 1 FIRST_RELATION ROOTS_END (flip v)) r
+      → Says (Within W v) r
   both_tell = says_map (λ q. within_of q.0 q.1) (λ q. (of_roots q, of_shifted q))

@@ -9,7 +9,6 @@ use borrow.Author.Tests.{eq-eqb, eqb-true}
 use Rattle.layout.specs.Places.{BITS, ROWS, USED, LAYOUT, CURRENT, VALID, FIRST_RELATION, ROOTS_END, LOW, HIGH, LEVEL, RANK}
 use Rattle.diagram.specs.Rows.{target, ArrowTo, level_to, RowOk, WellFormed}
 use Rattle.diagram.proofs.Reach.{one-root}
-use Rattle.diagram.specs.Even.{even}
 use Rattle.layout.specs.View.{View}
 use Rattle.rows.specs.Used.{Sizes, used, Ranked, rows_of}
 use Rattle.rows.proofs.Used.{used_in, listed-used}

@@ -1,3 +1,4 @@
+pub mod Alls
 pub mod Walks
 pub mod Checks
 pub mod Triples

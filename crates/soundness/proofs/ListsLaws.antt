@@ -8,6 +8,7 @@ use native.Mathlib.Omega.{arith}
 use native.Mathlib.Decide.{dec_lt, ℕ_discrete}
 use lib.ListN.{length, get_or, set}
 use lib.Seq.{get_or-set_same, get_or-set_other}
+use Rattle.std.proofs.Common.{take, drop, length-take, length-drop, get_or-take, get_or-drop}
 use lib.Dec.{eqb}
 use borrow.Author.Tests.{eqb-true, eq-eqb}
 use Rattle.diagram.specs.Rows.{marked, carry, level_to, level_of}
@@ -301,3 +302,17 @@ pub refs-done : {start k stop r : ℕ} {list : List ℕ} (head : ℕ → ℕ) �
     → RefsListed head list start stop r
 refs-done {start} {k} {stop} {r} {list} head p h g =
     let z : k ≡ stop = omega arith in subst (λ (x : ℕ). RefsListed head list start x r) z p
+
+-- an element of a part of a list
+pub part-at : {i : ℕ} (from to : ℕ) (list : List ℕ) → i < length (take (to - from) (drop from list)) → (from + i < to)
+    × (get_or (take (to - from) (drop from list)) i 0 ≡ get_or list (from + i) 0)
+part-at {i} from to list h =
+    let z = length-take (to - from) (drop from list) in
+    let l : i < to - from = omega arith in
+    (omega arith, get_or-take (to - from) (drop from list) i 0 l ∙ get_or-drop from list i 0)
+
+-- its length
+pub part-size : {from to : ℕ} (list : List ℕ) → from ≤ to → to ≤ length list → from + length (take (to - from) (drop from list)) ≡ to
+part-size {from} {to} list h l =
+    let z = length-take (to - from) (drop from list) in
+    let y = length-drop from list in omega arith

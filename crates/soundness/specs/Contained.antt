@@ -2,7 +2,7 @@
 use Rattle.std.specs.Prelude.{◌≡◌, List, Bool, true, false, ℕ, suc, ◌+◌, ◌-◌, ◌*◌, ◌≤◌, ◌<◌, length}
 use Rattle.diagram.specs.Rows.{Rows, Arrow, level_of, follow}
 use Rattle.diagram.specs.Even.{ReadsOn, even}
-use Rattle.layout.specs.Places.{HEADER, BITS, USED, FIRST_REGISTER, FIRST_RELATION, ROOTS_END}
+use Rattle.layout.specs.Places.{HEADER, BITS, USED, FIRST_REGISTER, ROOTS_END}
 use Rattle.layout.specs.View.{View}
 use Rattle.layout.specs.Arrows.{row_of}
 use Rattle.rows.specs.Used.{rows_of}
@@ -10,8 +10,6 @@ use Rattle.rows.specs.Says.{Says}
 use Rattle.rows.specs.Within.{den_of}
 use Rattle.rows.specs.Sound.{Good}
 use Rattle.soundness.specs.Apart.{Apart}
-use Rattle.soundness.specs.declared.within.Pass.{Pass}
-use Rattle.soundness.specs.declared.within.Pass.TheVariants.{Now, Next, Both}
 use Rattle.rows.specs.Roots.{Ref}
 use Rattle.soundness.specs.Tables.{SETS, Known, Sets}
 use Rattle.soundness.specs.Pairs.{PAIR_WORDS, Right}
@@ -19,12 +17,6 @@ use Rattle.soundness.specs.Pairs.{PAIR_WORDS, Right}
 -- the roots from a word of the header up to, and not with, another are apart from arrow b
 abbrev pub AllApart : View → ℕ → ℕ → ℕ → ℕ → Type 0
 AllApart W s start stop b = (h : ℕ) → start ≤ h → h < stop → (a : ℕ) → W.header h ≡ suc a → Apart (2 * W.header BITS) (rows_of W) s a b
-
--- what a part of the check tells
-abbrev pub Clear : View → ℕ → Pass → Type 0
-Clear W b Now = AllApart W 0 FIRST_REGISTER ROOTS_END b
-Clear W b Next = AllApart W 1 FIRST_RELATION ROOTS_END b
-Clear W b Both = AllApart W 0 FIRST_REGISTER ROOTS_END b × AllApart W 1 FIRST_RELATION ROOTS_END b
 
 -- the base from which tables decide, that of the last ten levels, and the lists of tables: with a place for each used row, and those of
 -- V's arrows; both right

@@ -3,7 +3,6 @@ pub mod Checks
 pub mod Triples
 pub mod Heights
 pub mod Order
-pub mod Chains
 pub mod Apart
 pub mod Pairs
 pub mod Contained

@@ -154,11 +154,9 @@ pub fn keep_all_open(
         return to;
     }
     let mut m = from;
-    let mut k = from;
-    while k < to {
+    for k in from..to {
         let a = list[k];
         m = keep_open(shift, b, m, a, list, memo);
-        k += 1;
     }
     m
 }
@@ -169,10 +167,9 @@ pub fn remember_all(b: u32, from: usize, to: usize, list: &[u32], memo: &mut [u3
     ensures { StaysRight list.now from to b memo.old memo.new }
 {
     if to - from < Short::LENGTH {
-        let mut k = from;
-        while k < to {
+        // By place, not over `&list[from..to]`, which makes the frame of the walk larger.
+        for k in from..to {
             remember(memo, list[k], b);
-            k += 1;
         }
     }
 }

@@ -22,7 +22,7 @@ ghost use Rattle.soundness.specs.Checks.{Placed, Leads, RowGood, Finds, Links, E
 ghost use Rattle.rows.specs.Sound.{Good, EvenSets, Sound, table_of};
 ghost use Rattle.soundness.specs.Posts.{RefsIn, SizesIn, LaidPre};
 
-use chains::{Part, part_ok};
+use chains::part_ok;
 use layout::{Table, get, head, header_word, is_marked, is_row, listed, row_of};
 use rows::{Bitmap, first, mark_refs, marked, row_bucket, same_row, used_row};
 use within::all_within;
@@ -107,8 +107,7 @@ fn list_ok(words: &[u32], rows: u32, used: u32) -> bool
     requires { (used ≤ rows) × (words_for rows ≤ length words.now) }
     ensures { Says ((k : ℕ) → k < used → Placed (view rows words.now) k) result }
 {
-    let mut k = 0;
-    while k < used {
+    for k in 0..used {
         let i = listed(words, rows, k);
         if i >= rows {
             return false;
@@ -116,7 +115,6 @@ fn list_ok(words: &[u32], rows: u32, used: u32) -> bool
         if get(words, rows, i, Table::RANK) != k {
             return false;
         }
-        k += 1;
     }
     true
 }
@@ -126,17 +124,11 @@ fn rows_ok(words: &[u32], rows: u32, used: u32, levels: u32) -> bool
     requires { (used ≤ rows) × Room (view rows words.now) × ((k : ℕ) → k < used → Placed (view rows words.now) k) }
     ensures { Says ((k : ℕ) → k < used → RowGood (view rows words.now) levels (list_of rows words.now k)) result }
 {
-    let mut k = 0;
-    while k < used {
-        if !row_ok(words, rows, levels, listed(words, rows, k)) {
-            return false;
-        }
-        k += 1;
-    }
-    true
+    (0..used).all(|k| row_ok(words, rows, levels, listed(words, rows, k)))
 }
 
 // How a walk along a chain ended: it met its row, missed it, or grew too long.
+// No Option: three answers of one question, each with an arm of its own; an Option<bool> would name none.
 #[derive(Clone, Copy)]
 enum Walk {
     Met,
@@ -156,6 +148,7 @@ fn hits(words: &[u32], rows: u32, link: u32, level: u32, low: u32, high: u32, i:
 {
     let mut p = link;
     let mut left = Walk::MOST;
+    // Not a for: the walk follows links, and ends where one is 0.
     while p != 0 {
         let j = p - 1;
         if same_row(words, rows, j, level, low, high) {
@@ -193,8 +186,7 @@ fn index_ok(words: &[u32], rows: u32, used: u32) -> bool
     requires { Ready (view rows words.now) used }
     ensures { Says ((k : ℕ) → k < used → Finds (view rows words.now) (list_of rows words.now k)) result }
 {
-    let mut k = 0;
-    while k < used {
+    for k in 0..used {
         let walk = found_row(words, rows, listed(words, rows, k));
         match walk {
             Walk::Met => {}
@@ -202,10 +194,9 @@ fn index_ok(words: &[u32], rows: u32, used: u32) -> bool
                 return false;
             }
             Walk::Long => {
-                return part_ok(words, rows, used, Part::Both);
+                return part_ok(words, rows, used);
             }
         }
-        k += 1;
     }
     true
 }
@@ -230,14 +221,7 @@ fn refs_ok(words: &[u32], rows: u32, from: usize, to: usize) -> bool
     requires { (to ≤ HEADER) × Room (view rows words.now) }
     ensures { Says (RefsIn rows words.now from to) result }
 {
-    let mut k = from;
-    while k < to {
-        if !ref_ok(words, rows, header_word(words, k)) {
-            return false;
-        }
-        k += 1;
-    }
-    true
+    (from..to).all(|k| ref_ok(words, rows, header_word(words, k)))
 }
 
 // Whether every marked row has an even level.
@@ -246,15 +230,13 @@ fn evens(words: &[u32], rows: u32, marks: &[u32]) -> bool
     ensures { Says (EvenMarked (view rows words.now) marks.now) result }
 {
     let used = header_word(words, Table::USED);
-    let mut k = 0;
-    while k < used {
+    for k in 0..used {
         let i = listed(words, rows, k);
         if marked(marks, i) {
             if get(words, rows, i, Table::LEVEL) % 2 == 1 {
                 return false;
             }
         }
-        k += 1;
     }
     true
 }

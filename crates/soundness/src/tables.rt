@@ -58,6 +58,7 @@ fn low_cells(class: u32) -> u64
 }
 
 // The cells that have 1 at a tested level; all where the level is none.
+// Beside low_cells: its complement, but past the last class, where both are all cells. As two tables each is its definition.
 fn high_cells(class: u32) -> u64
     ensures { result ≡ high_mask class }
 {

@@ -10,7 +10,7 @@ ghost use Rattle.rows.specs.Says.{Says};
 ghost use Rattle.rows.specs.Within.{Within};
 ghost use Rattle.rows.specs.Sound.{Good};
 ghost use Rattle.soundness.specs.Tables.{FEW};
-ghost use Rattle.soundness.specs.Contained.{MANY, AllApart, Clear, Deep, RootsPre, RefsPre, PassPre, Halved};
+ghost use Rattle.soundness.specs.Contained.{MANY, AllApart, Deep, RootsPre, RefsPre, PassPre, Halved};
 ghost use Rattle.soundness.specs.Lists.{ROOM, Listed, LeastPre, Least, half_of, HalvesPre, Halves, LayPre, Laid, StepPre, Stepped};
 ghost use Rattle.soundness.specs.Lists.{TablesPre, TablesPost, WalkPre, WalkTold, RefsListed};
 ghost use Rattle.soundness.specs.Posts.{level_in, ListRefsPre};
@@ -50,10 +50,7 @@ impl Sizes {
 fn base_of(levels: u32) -> u32
     ensures { result ≡ levels - 10 }
 {
-    if levels < Sizes::LAST {
-        return 0;
-    }
-    levels - Sizes::LAST
+    levels.saturating_sub(Sizes::LAST)
 }
 
 // Two arrows.
@@ -105,11 +102,7 @@ fn lesser(words: &[u32], rows: u32, level: u32, a: u32) -> u32
     if a == Table::EVERYTHING {
         return level;
     }
-    let own = get(words, rows, row_of(a), Table::LEVEL);
-    if own < level {
-        return own;
-    }
-    level
+    get(words, rows, row_of(a), Table::LEVEL).min(level)
 }
 
 // The least of a level and of those of a list's arrows.
@@ -118,10 +111,8 @@ fn least(words: &[u32], rows: u32, top: u32, from: usize, to: usize, list: &[u32
     ensures { Least (view rows words.now) list.now from to top result }
 {
     let mut level = top;
-    let mut k = from;
-    while k < to {
-        level = lesser(words, rows, level, list[k]);
-        k += 1;
+    for a in &list[from..to] {
+        level = lesser(words, rows, level, *a);
     }
     level
 }
@@ -159,11 +150,9 @@ fn halves(
     ensures { Halves (view rows words.now) level side list.old list.new from to start end result }
 {
     let mut stop = end;
-    let mut k = from;
-    while k < to {
+    for k in from..to {
         let h = half(words, rows, level, side, list[k]);
         stop = push(list, found, start, stop, h);
-        k += 1;
     }
     stop
 }
@@ -185,10 +174,7 @@ fn cut(end: usize, stop: usize) -> usize
     requires { (end ≤ stop) × (stop ≤ end + 2 * MANY) × (stop ≤ ROOM) }
     ensures { (end ≤ result) × (result ≤ stop) × (result ≤ end + MANY) × (stop ≤ result + MANY) }
 {
-    if stop - end > Sizes::MANY {
-        return end + Sizes::MANY;
-    }
-    stop
+    stop.min(end + Sizes::MANY)
 }
 
 // Lays a list's halves at level l: all against b where b is past the level, cut in two; else the low ones against the low half of b, and
@@ -275,13 +261,11 @@ fn tables_apart(
         second.new result }
 {
     let y = set_cells(words, rows, base, shift, b, row_of(b), second);
-    let mut k = from;
-    while k < to {
-        let x = arrow_cells(words, rows, base, shift, 0, list[k], first);
+    for a in &list[from..to] {
+        let x = arrow_cells(words, rows, base, shift, 0, *a, first);
         if !disjoint(x, y) {
             return false;
         }
-        k += 1;
     }
     true
 }
@@ -345,10 +329,8 @@ fn list_refs(words: &[u32], from: usize, to: usize, list: &mut [u32], found: &mu
     ensures { RefsListed (header_of words.now) list.new from to result }
 {
     let mut stop = 0;
-    let mut k = from;
-    while k < to {
+    for k in from..to {
         stop = push_ref(list, found, stop, header_word(words, k));
-        k += 1;
     }
     stop
 }
@@ -390,7 +372,9 @@ fn refs_apart(
     )
 }
 
-// The same with places for all rows.
+// The same with places for all rows. This and the next are not one function with a const parameter: `inline(never)` does not hold for a
+// generic function's instances, and the frame of a small table's check had both lists.
+#[inline(never)]
 fn wide_apart(words: &[u32], rows: u32, shift: u32, from: usize, to: usize, b: u32) -> bool
     requires { RootsPre (view rows words.now) shift from to b }
     ensures { Says (AllApart (view rows words.now) shift from to b) result }
@@ -400,6 +384,7 @@ fn wide_apart(words: &[u32], rows: u32, shift: u32, from: usize, to: usize, b: u
 }
 
 // The same with places for few rows.
+#[inline(never)]
 fn narrow_apart(words: &[u32], rows: u32, shift: u32, from: usize, to: usize, b: u32) -> bool
     requires { RootsPre (view rows words.now) shift from to b × (header_of words.now USED ≤ FEW) }
     ensures { Says (AllApart (view rows words.now) shift from to b) result }
@@ -408,47 +393,15 @@ fn narrow_apart(words: &[u32], rows: u32, shift: u32, from: usize, to: usize, b:
     refs_apart(words, rows, shift, from, to, b, &mut first)
 }
 
-// The parts of the check: roots against V, relations against SHIFT of V.
-#[derive(Clone, Copy)]
-pub enum Pass {
-    Now,
-    Next,
-    Both,
-}
-
-// Whether a part of the check holds, for NOT of V: for many rows. As it calls itself it is never inlined, and no caller's frame has the
-// lists.
-fn wide_ok(words: &[u32], rows: u32, b: u32, pass: Pass) -> bool
-    requires { PassPre (view rows words.now) b }
-    ensures { Says (Clear (view rows words.now) b pass) result }
+// The same with places for as many rows as are used.
+fn roots_apart(words: &[u32], rows: u32, shift: u32, from: usize, to: usize, b: u32) -> bool
+    requires { RootsPre (view rows words.now) shift from to b }
+    ensures { Says (AllApart (view rows words.now) shift from to b) result }
 {
-    match pass {
-        Pass::Now => wide_apart(words, rows, 0, Table::FIRST_REGISTER, Table::ROOTS_END, b),
-        Pass::Next => wide_apart(words, rows, 1, Table::FIRST_RELATION, Table::ROOTS_END, b),
-        Pass::Both => {
-            if !wide_ok(words, rows, b, Pass::Now) {
-                return false;
-            }
-            wide_ok(words, rows, b, Pass::Next)
-        }
+    if (header_word(words, Table::USED) as usize) > Sizes::FEW {
+        return wide_apart(words, rows, shift, from, to, b);
     }
-}
-
-// Whether a part of the check holds, for NOT of V: for few. As it calls itself it is never inlined, and no caller's frame has the lists.
-fn narrow_ok(words: &[u32], rows: u32, b: u32, pass: Pass) -> bool
-    requires { PassPre (view rows words.now) b × (header_of words.now USED ≤ FEW) }
-    ensures { Says (Clear (view rows words.now) b pass) result }
-{
-    match pass {
-        Pass::Now => narrow_apart(words, rows, 0, Table::FIRST_REGISTER, Table::ROOTS_END, b),
-        Pass::Next => narrow_apart(words, rows, 1, Table::FIRST_RELATION, Table::ROOTS_END, b),
-        Pass::Both => {
-            if !narrow_ok(words, rows, b, Pass::Now) {
-                return false;
-            }
-            narrow_ok(words, rows, b, Pass::Next)
-        }
-    }
+    narrow_apart(words, rows, shift, from, to, b)
 }
 
 // Whether every register lies within V, and every relation within V and SHIFT of V, for the set V of arrow v.
@@ -460,8 +413,6 @@ pub fn all_within(words: &[u32], rows: u32, v: u32) -> bool
         return true;
     }
     let b = flip(v);
-    if (header_word(words, Table::USED) as usize) > Sizes::FEW {
-        return wide_ok(words, rows, b, Pass::Both);
-    }
-    narrow_ok(words, rows, b, Pass::Both)
+    roots_apart(words, rows, 0, Table::FIRST_REGISTER, Table::ROOTS_END, b)
+        && roots_apart(words, rows, 1, Table::FIRST_RELATION, Table::ROOTS_END, b)
 }

@@ -15,6 +15,8 @@ use Rattle.operations.specs.Work.{Ready}
 use Rattle.operations.proofs.Work.{ready-wf}
 use Rattle.operations.specs.Open.{RowIs}
 use Rattle.operations.proofs.Open.{Opened, depth, row_at, opened, low-falls, high-falls, high-later}
+use Rattle.std.specs.Prelude.{Result}
+use Rattle.table.specs.declared.Full.{Full}
 use Rattle.operations.specs.Odd.{Grown, OddPost}
 use Rattle.operations.proofs.Odd.{grown-none, grown_trans, ready-grown}
 use Rattle.stages.proofs.Surveys.{arrow_in}
@@ -61,5 +63,5 @@ module _ {m N limit : ℕ} {W : View} {seen : List ℕ} {a : ℕ} (p : RenewPre 
     pub renew-asks : Ready m N limit Y × Arrow (rows_of Y) a
     renew-asks = let g = grown_trans lo hi in (ready-grown p.ready g, arrow_extends g.kept a p.arrow)
 
-    pub renew-last : {Z : View} {r : ℕ} → OddPost m Y Z a r → Grown m W Z
+    pub renew-last : {Z : View} {r : Result ℕ Full} → OddPost m Y Z a r → Grown m W Z
     renew-last o = grown_trans (grown_trans lo hi) o.grown

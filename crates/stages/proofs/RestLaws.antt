@@ -22,9 +22,8 @@ use Rattle.rows.specs.Used.{rows_of}
 use Rattle.rows.proofs.Used.{of_arrow}
 use Rattle.rows.specs.Sound.{Sound}
 use Rattle.rows.proofs.Filled.{filled-arrow}
-use Rattle.table.specs.Code.{FULL}
 use Rattle.table.proofs.Keep.{sound_extends}
-use Rattle.table.specs.declared.Found.TheVariants as find
+use Rattle.std.specs.Prelude.{Some, None, Ok}
 use Rattle.collect.specs.Answers.{FreePre}
 use Rattle.operations.proofs.Work.{ready-look, ready-wf}
 use Rattle.operations.specs.Odd.{Grown, OddPost}
@@ -101,18 +100,18 @@ module _ {n N limit : ℕ} {W : View} {roots : List ℕ} {a left : ℕ} (p : Res
           (λ t. ⊎_elim (λ e. is e p.arrow) (λ t. ⊎_elim (λ e. is e (u (rows_of W) p.arrow)) (λ z. absurd (mem-nil z)) (mem-cases t))
           (mem-cases t)) (mem-cases h)
 
-  pub rest-none : {X : View} {most : ℕ} → Grown (2 * n) W X → RestPost n W X roots a left most find.Nothing
+  pub rest-none : {X : View} {most : ℕ} → Grown (2 * n) W X → RestPost n W X roots a left most None
   rest-none g = record { grown = g; value = λ v e. absurd (nothing v e); fits = λ v e. absurd (nothing v e) }
     where
-      nothing : (v : ℕ) → find.Nothing ≡ find.At v → ⊥
+      nothing : (v : ℕ) → None ≡ Some v → ⊥
       nothing v e = let z : ◌≡◌ {A = ℕ} 0 1 = cc in omega arith
 
-  pub rest_idle : {most : ℕ} → RestPost n W W roots a left most find.Nothing
+  pub rest_idle : {most : ℕ} → RestPost n W W roots a left most None
   rest_idle = rest-none (grown-none p.ready)
 
-  module _ {X : View} {c : ℕ} (o : OddPost (2 * n) W X a c) (v : c ≢ FULL)
+  module _ {X : View} {c : ℕ} (o : OddPost (2 * n) W X a (Ok c))
       {Y : View} {most : ℕ} {b : Bool} (s : SurePost n X Y roots a left most b) where
-    pub rest_at : b ≡ true → RestPost n W Y roots a left most (find.At c)
+    pub rest_at : b ≡ true → RestPost n W Y roots a left most (Some c)
     rest_at e = record {
       grown = grown_trans o.grown s.grown;
       value = λ w q. let z : c ≡ w = cc in subst (λ (x : ℕ). Denotes (2 * n) (rows_of Y) x (odd_f (den (2 * n) (rows_of W) a))) z denotes;
@@ -120,4 +119,4 @@ module _ {n N limit : ℕ} {W : View} {roots : List ℕ} {a left : ℕ} (p : Res
     }
       where
         denotes : Denotes (2 * n) (rows_of Y) c (odd_f (den (2 * n) (rows_of W) a))
-        denotes = denotes_extends (ready-wf (ready-grown p.ready o.grown)) s.grown.kept (o.result v)
+        denotes = denotes_extends (ready-wf (ready-grown p.ready o.grown)) s.grown.kept (o.result c refl)

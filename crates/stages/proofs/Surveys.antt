@@ -27,8 +27,7 @@ use Rattle.rows.specs.Used.{rows_of}
 use Rattle.rows.specs.Bits.{is_on, On, Sets}
 use Rattle.rows.proofs.MarkLaws.{on_arrow_le}
 use Rattle.rows.specs.Sound.{Good}
-use Rattle.table.specs.declared.Found.{Found}
-use Rattle.table.specs.declared.Found.TheVariants as find
+use Rattle.std.specs.Prelude.{Option, Some}
 use Rattle.operations.specs.Work.{Ready}
 use Rattle.operations.proofs.Work.{ready-wf}
 use Rattle.operations.specs.Open.{RowIs}
@@ -120,7 +119,7 @@ module _ {m N : ℕ} {W : View} {seen above reached added : List ℕ} {a : ℕ} 
   survey_again o = survey-same (λ i l. o)
 
   -- what covers the arrow is marked first
-  pub cover_asks : {f : Found} {b : ℕ} → f ≡ find.At b → OddKnown m W a f → MarkAddedPre W reached added b
+  pub cover_asks : {f : Option ℕ} {b : ℕ} → f ≡ Some b → OddKnown m W a f → MarkAddedPre W reached added b
   cover_asks {b = b} e k = added-at p.marking (k.at b e).arrow
 
 -- the walk from an arrow to row i that has no bit
@@ -133,7 +132,7 @@ module _ {m N : ℕ} {W : View} {s₀ a₀ k₀ d₀ : List ℕ} {a i : ℕ} (p 
   pub survey_row-at : (i < W.rows) × (words_for W.rows ≤ W.size)
   survey_row-at = (p.marking.good.rows.bounded i at_row.used, p.marking.good.sizes.room)
 
-  module _ {k₁ d₁ : List ℕ} {f : Found} {b l lo hi : ℕ} (ef : f ≡ find.At b) (known : OddKnown m W a f)
+  module _ {k₁ d₁ : List ℕ} {f : Option ℕ} {b l lo hi : ℕ} (ef : f ≡ Some b) (known : OddKnown m W a f)
       (sh : MarkAddedPost (rows_of W) k₀ k₁ d₀ d₁ b) (n : RowIs (rows_of W) a i l lo hi) where
     open_at : Opened m (rows_of W) a i l lo hi
     open_at = opened (ready-wf p.ready) at_row n

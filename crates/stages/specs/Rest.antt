@@ -1,5 +1,5 @@
 -- All EXISTS left of an arrow at once: what is asked and what is promised. Assumes nothing.
-use Rattle.std.specs.Prelude.{◌≡◌, Bool, true, ℕ, ◌*◌, ◌≤◌}
+use Rattle.std.specs.Prelude.{◌≡◌, Bool, true, ℕ, ◌*◌, ◌≤◌, Option, Some}
 use mathlib.Core.List.{List, Memᴰ as Mem}
 use Rattle.layout.specs.View.{View}
 use Rattle.diagram.specs.Rows.{Arrow, den}
@@ -8,8 +8,6 @@ use Rattle.diagram.specs.Blind.{Blind}
 use Rattle.diagram.specs.Post.{Denotes}
 use Rattle.rows.specs.Used.{rows_of}
 use Rattle.rows.specs.Sound.{Sound}
-use Rattle.table.specs.declared.Found.{Found}
-use Rattle.table.specs.declared.Found.TheVariants as find
 use Rattle.collect.specs.Lent.{live}
 use Rattle.operations.specs.Work.{Ready}
 use Rattle.operations.specs.Odd.{Grown}
@@ -30,7 +28,7 @@ pub record SurePost (n : ℕ) (W X : View) (roots : List ℕ) (a left most : ℕ
   pub fits : r ≡ true → LeftFits (2 * n) (rows_of X) (live X roots) a left most
 
 -- rows were only added; an arrow is that of all EXISTS left, each of which needs at most `most` rows
-pub record RestPost (n : ℕ) (W X : View) (roots : List ℕ) (a left most : ℕ) (r : Found) : Type 0 where
+pub record RestPost (n : ℕ) (W X : View) (roots : List ℕ) (a left most : ℕ) (r : Option ℕ) : Type 0 where
   pub grown : Grown (2 * n) W X
-  pub value : (v : ℕ) → r ≡ find.At v → Denotes (2 * n) (rows_of X) v (odd_f (den (2 * n) (rows_of W) a))
-  pub fits : (v : ℕ) → r ≡ find.At v → LeftFits (2 * n) (rows_of X) (live X roots) a left most
+  pub value : (v : ℕ) → r ≡ Some v → Denotes (2 * n) (rows_of X) v (odd_f (den (2 * n) (rows_of W) a))
+  pub fits : (v : ℕ) → r ≡ Some v → LeftFits (2 * n) (rows_of X) (live X roots) a left most

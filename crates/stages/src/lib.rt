@@ -24,7 +24,6 @@ use counting::{Few, mark_live, sizes_within};
 use layout::{Table, get, is_row, row_of};
 use operations::{exists_odd, node_at, odd_known};
 use rows::{Bitmap, marked, set_mark};
-use table::{Code, Found};
 
 // What a survey counts with.
 #[derive(Clone, Copy)]
@@ -40,6 +39,7 @@ impl Counter {
 }
 
 // What a look at the EXISTS left tells: none needs more than a number; one may; or a result that is wanted is not remembered.
+// No Option: three answers of one question; an Option<bool> would name none.
 #[derive(Clone, Copy)]
 pub enum Looked {
     Fits,
@@ -62,16 +62,10 @@ fn mark_added(words: &[u32], rows: u32, reached: &mut [u32], added: &mut [u32], 
     ensures { MarkAddedPost (rows_of (view rows words.now)) reached.old reached.new added.old
         added.new b }
 {
-    if !is_row(b) {
-        return;
-    }
-    if marked(reached, row_of(b)) {
-        return;
-    }
-    mark_added_row(words, rows, reached, added, b)
+    mark_added_part(words, rows, reached, added, b)
 }
 
-// `mark_added` of an arrow of a row. It is apart, so that it is inlined in `mark_added_row`: an arrow with nothing to mark costs no call.
+// The body of `mark_added`, also for an arrow of a row. Apart, so that it is inlined in `mark_added_row`: a marked row costs no call.
 #[cycle(mark_added_part_mark_added_row)]
 fn mark_added_part(words: &[u32], rows: u32, reached: &mut [u32], added: &mut [u32], b: u32)
     requires { MarkAddedPre (view rows words.now) reached.old added.old b }
@@ -89,6 +83,7 @@ fn mark_added_part(words: &[u32], rows: u32, reached: &mut [u32], added: &mut [u
 
 // `mark_added` of an arrow to a row that is not marked.
 #[cycle(mark_added_part_mark_added_row)]
+#[inline(never)]
 fn mark_added_row(words: &[u32], rows: u32, reached: &mut [u32], added: &mut [u32], b: u32)
     requires { MarkAddedPre (view rows words.now) reached.old added.old b × (is_row b ≡ true)
         × (is_on reached.old (row_of b) ≡ false) }
@@ -125,16 +120,10 @@ fn survey(
         → SurveyPost levels (rows_of (view rows words.now)) seen.old seen.new above.old
         above.new reached.old reached.new added.old added.new a }
 {
-    if !is_row(a) {
-        return true;
-    }
-    if marked(seen, a) {
-        return true;
-    }
-    survey_row(words, rows, levels, seen, above, reached, added, a)
+    survey_part(words, rows, levels, seen, above, reached, added, a)
 }
 
-// `survey` of an arrow that is followed. It is apart, so that it is inlined in `survey_row`: an arrow that is done with costs no call.
+// The body of `survey`, also for an arrow that is followed. Apart, so that it is inlined in `survey_row`: one done with costs no call.
 #[cycle(survey_part_survey_row)]
 fn survey_part(
     words: &[u32],
@@ -162,6 +151,7 @@ fn survey_part(
 
 // `survey` of an arrow to a row that is not done with.
 #[cycle(survey_part_survey_row)]
+#[inline(never)]
 fn survey_row(
     words: &[u32],
     rows: u32,
@@ -179,7 +169,7 @@ fn survey_row(
         above.new reached.old reached.new added.old added.new a }
 {
     let known = odd_known(words, rows, levels, a);
-    let Found::At(b) = known else {
+    let Some(b) = known else {
         return false;
     };
     mark_added(words, rows, reached, added, b);
@@ -200,11 +190,9 @@ fn total(counts: &[u32], k: usize) -> u64
     requires { (k ≤ LEVELS) × Levels counts.now }
     ensures { result ≡ sum_to (count_of counts.now) k }
 {
-    let mut sum = 0u64;
-    let mut j = 0;
-    while j < k {
-        sum += counts[j] as u64;
-        j += 1;
+    let mut sum = 0;
+    for x in &counts[..k] {
+        sum += *x as u64;
     }
     sum
 }
@@ -217,8 +205,7 @@ fn within(above: &[u32], added: &[u32], bits: u32, left: u32, live: u32, most: u
     let all = live as u64 + total(added, 2 * (bits as usize));
     let mut below = above[0] as u64;
     let mut past = added[0] as u64 + added[1] as u64;
-    let mut j = 0;
-    while j < left {
+    for j in 0..left {
         let at = 2 * (j as usize);
         let next = below + above[at + 1] as u64 + above[at + 2] as u64;
         if all + below + next > most as u64 + past {
@@ -226,7 +213,6 @@ fn within(above: &[u32], added: &[u32], bits: u32, left: u32, live: u32, most: u
         }
         below = next;
         past += added[at + 2] as u64 + added[at + 3] as u64;
-        j += 1;
     }
     true
 }
@@ -330,7 +316,7 @@ fn renew(words: &mut [u32], rows: u32, levels: u32, limit: u32, seen: &mut [u32]
     renew(words, rows, levels, limit, seen, n.low);
     renew(words, rows, levels, limit, seen, n.high);
     set_mark(seen, a);
-    exists_odd(words, rows, levels, limit, a);
+    let _ = exists_odd(words, rows, levels, limit, a);
 }
 
 // The same, for a whole arrow.
@@ -394,16 +380,6 @@ fn sure(
     }
 }
 
-// The lesser of two numbers.
-fn lesser(a: u32, b: u32) -> u32
-    ensures { result ≡ min a b }
-{
-    if a < b {
-        return a;
-    }
-    b
-}
-
 // Whether the size of arrow a says nothing: before the first EXISTS, of a product that registers and relations reach.
 // A guess: nothing rests on its answer.
 fn no_size(counts: &[u32], a: u32, left: u32, bits: u32) -> bool
@@ -441,26 +417,25 @@ pub fn rest(
     a: u32,
     left: u32,
     peak: u32,
-) -> Found
+) -> Option<u32>
     requires { RestPre bits rows limit (view rows words.old) roots.now a left × CountsOf (view rows words.old) counts.old }
     ensures { RestPost bits (view rows words.old) (view rows words.new) roots.now a left (min peak limit) result
         × CountsOf (view rows words.new) counts.new }
 {
-    let most = lesser(peak, limit);
+    let most = peak.min(limit);
     // two guesses, that spare the work where the answer is likely to be none
     if no_size(counts, a, left, bits) {
-        return Found::Nothing;
+        return None;
     }
     let likely = [a, a, third_of(a, left, bits)];
     if !sizes_within(words, rows, counts, roots, &likely, most) {
-        return Found::Nothing;
+        return None;
     }
-    let c = exists_odd(words, rows, 2 * bits, limit, a);
-    if c == Code::FULL {
-        return Found::Nothing;
-    }
+    let Ok(c) = exists_odd(words, rows, 2 * bits, limit, a) else {
+        return None;
+    };
     if sure(words, counts, rows, bits, limit, roots, a, left, most) {
-        return Found::At(c);
+        return Some(c);
     }
-    Found::Nothing
+    None
 }

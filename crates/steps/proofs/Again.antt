@@ -11,7 +11,6 @@ use Rattle.diagram.specs.Rows.{Arrow}
 use Rattle.diagram.proofs.Grow.{arrow_extends}
 use Rattle.diagram.specs.Keep.{Keeps}
 use Rattle.diagram.proofs.Keep.{keeps_arrow, keeps_within, keeps_trans, extends_keeps}
-use Rattle.diagram.specs.Post.{at}
 use Rattle.diagram.specs.Collect.{Collects}
 use Rattle.diagram.proofs.Collect.{collects-same, collects_keeps}
 use Rattle.diagram.specs.Step.{Settled}
@@ -23,8 +22,9 @@ use Rattle.rows.specs.Sound.{Sound}
 use Rattle.rows.proofs.Alike.{alike_sound}
 use Rattle.table.specs.Make.{result}
 use Rattle.table.proofs.Keep.{sound_extends}
-use Rattle.table.specs.declared.Made.{Made}
-use Rattle.table.specs.declared.Made.TheVariants as answer
+use Rattle.std.specs.Prelude.{Result, Ok, Err}
+use Rattle.table.specs.declared.Full.{Full}
+use Rattle.table.specs.Full.{rows_out}
 use Rattle.memory.proofs.Frame.{memo_alike}
 use Rattle.memory.specs.Forget.{Forgot}
 use Rattle.memory.proofs.ForgetLaws.{forgot_remembers}
@@ -50,7 +50,7 @@ module _ {m N limit : ℕ} {W : View} {roots : List ℕ} {s : Step} (p : StepPre
   pub clean-pre : CleanPre W roots s 0
   clean-pre = record { sound = p.sound; arrows = p.arrows; operands = operands_are; kept-arrow = tt }
 
-  module _ {X : View} {o : Made} (w : Worked m N limit W X o (step_f m (rows_of W) s)) where
+  module _ {X : View} {o : Result ℕ Full} (w : Worked m N limit W X o (step_f m (rows_of W) s)) where
     tried-sound : Sound X
     tried-sound =
         sound_extends p.sound w.good (w.frame.header BITS (omega arith) (omega arith) (omega arith) (omega arith))
@@ -75,16 +75,16 @@ module _ {m N limit : ℕ} {W : View} {roots : List ℕ} {s : Step} (p : StepPre
       answer-arrow = is o w;
     }
       where
-        is : (t : Made) → Worked m N limit W X t (step_f m (rows_of W) s) → AnswerArrow (rows_of X) t
-        is (answer.At a) v = v.post.result.arrow
-        is answer.Full v = tt
+        is : (t : Result ℕ Full) → Worked m N limit W X t (step_f m (rows_of W) s) → AnswerArrow (rows_of X) t
+        is (Ok a) v = v.post.result.arrow
+        is (Err _) v = tt
 
     -- it is answered
-    pub first-pre : {a : ℕ} → o ≡ answer.At a → SettlePre X roots s (answer.At a)
+    pub first-pre : {a : ℕ} → o ≡ Ok a → SettlePre X roots s (Ok a)
     first-pre e = rw e at settle-pre
 
     -- what a settled try says of the table's N rows and of W's live roots
-    pub settled_at : {Y : View} {t r : Made} → SettlePost limit X Y roots s t r
+    pub settled_at : {Y : View} {t r : Result ℕ Full} → SettlePost limit X Y roots s t r
         → Settled N limit (rows_of X) (rows_of Y) (live_at W roots s) (result t) (result r)
     settled_at {Y} {t} {r} z =
         subst (λ (xs : List ℕ). Settled N limit (rows_of X) (rows_of Y) xs (result t) (result r))
@@ -93,10 +93,10 @@ module _ {m N limit : ℕ} {W : View} {roots : List ℕ} {s : Step} (p : StepPre
         (w.frame.rows ∙ sym p.ready.rows_is) z.settled)
 
   -- the first try is answered
-  pub stepped-first : {X Y : View} {o r : Made} {a : ℕ} → o ≡ answer.At a → Worked m N limit W X o (step_f m (rows_of W) s)
-      → SettlePost limit X Y roots s (answer.At a) r → Stepped m N limit W Y roots s r
+  pub stepped-first : {X Y : View} {o r : Result ℕ Full} {a : ℕ} → o ≡ Ok a → Worked m N limit W X o (step_f m (rows_of W) s)
+      → SettlePost limit X Y roots s (Ok a) r → Stepped m N limit W Y roots s r
   stepped-first {X} {Y} {o} {r} {a} e w' z =
-      let w : Worked m N limit W X (answer.At a) (step_f m (rows_of W) s) = rw e at w' in
+      let w : Worked m N limit W X (Ok a) (step_f m (rows_of W) s) = rw e at w' in
       record {
         sound = z.sound;
         memory = z.memory m w.memory;
@@ -105,15 +105,15 @@ module _ {m N limit : ℕ} {W : View} {roots : List ℕ} {s : Step} (p : StepPre
       }
 
   -- and few rows are used
-  pub stepped-few : {X : View} {o : Made} {a c : ℕ} → o ≡ answer.At a → Worked m N limit W X o (step_f m (rows_of W) s) → c ≡ X.header USED
-      → c ≤ limit → Stepped m N limit W X roots s (answer.At a)
+  pub stepped-few : {X : View} {o : Result ℕ Full} {a c : ℕ} → o ≡ Ok a → Worked m N limit W X o (step_f m (rows_of W) s)
+      → c ≡ X.header USED → c ≤ limit → Stepped m N limit W X roots s (Ok a)
   stepped-few e w q l = stepped-first e w (settle-few limit (first-pre w e) refl q l)
 
   -- it ran out, and the second try decides
-  pub stepped_again : {X Y : View} {o r : Made} → o ≡ answer.Full → Worked m N limit W X o (step_f m (rows_of W) s)
+  pub stepped_again : {X Y : View} {o r : Result ℕ Full} → o ≡ Err rows_out → Worked m N limit W X o (step_f m (rows_of W) s)
       → Retried m N limit X Y roots s r → Stepped m N limit W Y roots s r
   stepped_again {X} {Y} {o} {r} e w' z =
-      let w : Worked m N limit W X answer.Full (step_f m (rows_of W) s) = rw e at w' in
+      let w : Worked m N limit W X (Err rows_out) (step_f m (rows_of W) s) = rw e at w' in
       let l = live_same w.frame (roots ++ operands_of s) in
       let c : Collects (rows_of X) z.clean (live_at W roots s) = subst (λ (xs : List ℕ). Collects (rows_of X) z.clean xs) l
       z.collects in
@@ -146,7 +146,7 @@ module _ {m N limit : ℕ} {W : View} {roots : List ℕ} {s : Step} (p : StepPre
       fits = fits_keeps m s (keeps_within (operand-live W roots s) keeps) p.fits;
     }
 
-pub retried : {m N limit : ℕ} {W C X Y : View} {roots : List ℕ} {s : Step} {o r : Made} (p : StepPre m N limit W roots s)
+pub retried : {m N limit : ℕ} {W C X Y : View} {roots : List ℕ} {s : Step} {o r : Result ℕ Full} (p : StepPre m N limit W roots s)
     (c : Cleaned W C roots s 0)
     (w : Worked m N limit C X o (step_f m (rows_of C) s)) → SettlePost limit X Y roots s o r → Retried m N limit W Y roots s r
 retried {m} {N} {limit} {W} {C} {X} {Y} {roots} {s} {o} {r} p c w z = record {

@@ -29,7 +29,7 @@ use Rattle.rows.specs.Used.{rows_of}
 use Rattle.rows.specs.Sound.{Sound}
 use Rattle.rows.specs.Filled.{filled, held, push}
 use Rattle.rows.proofs.Filled.{filled-arrow}
-use Rattle.table.specs.Code.{made_of}
+use Rattle.std.specs.Prelude.{Ok}
 use Rattle.collect.specs.Lent.{live}
 use Rattle.operations.specs.Work.{OpFrame, Ready, Worked}
 use Rattle.operations.proofs.Work.{worked_there}
@@ -40,7 +40,7 @@ use Rattle.steps.specs.Steps.{step_f, operands_of, Fits, live_at}
 
 -- "NOT needs no new row": it is the arrow with the other mark
 pub not_worked : {m N limit : ℕ} {W : View} {r : ℕ} (a : ℕ) → Ready m N limit W → Arrow (rows_of W) a → r ≡ flip a
-    → Worked m N limit W W (made_of r) (not_f (den m (rows_of W) a))
+    → Worked m N limit W W (Ok r) (not_f (den m (rows_of W) a))
 not_worked a p u e = rw e (worked_there p (denotes-flip (record { arrow = u; same = λ v. refl })))
 
 -- operands are arrows

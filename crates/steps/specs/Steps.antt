@@ -1,6 +1,6 @@
 -- The steps of an evaluation, what is live at one, and what one asks and promises. Assumes nothing.
 use mathlib.Core.List.{List, [], ◌∷◌, ◌++◌, Memᴰ as Mem}
-use Rattle.std.specs.Prelude.{ℕ, ◌<◌}
+use Rattle.std.specs.Prelude.{ℕ, ◌<◌, Result}
 use Rattle.diagram.specs.Level.{Fn}
 use Rattle.diagram.specs.Rows.{Rows, Arrow, den}
 use Rattle.diagram.specs.Even.{ReadsOn, even}
@@ -10,7 +10,7 @@ use Rattle.layout.specs.View.{View}
 use Rattle.rows.specs.Used.{rows_of}
 use Rattle.rows.specs.Sound.{Sound}
 use Rattle.table.specs.Make.{result}
-use Rattle.table.specs.declared.Made.{Made}
+use Rattle.table.specs.declared.Full.{Full}
 use Rattle.collect.specs.Lent.{live}
 use Rattle.memory.specs.Memo.{Remembers}
 use Rattle.operations.specs.Work.{OpFrame, Ready}
@@ -81,7 +81,7 @@ pub record StepPre (m N limit : ℕ) (W : View) (roots : List ℕ) (s : Step) : 
   pub fits : Fits m (rows_of W) s
 
 -- what a step promises: a sound table, what is remembered right, nothing else touched, and `StepPost`
-pub record Stepped (m N limit : ℕ) (W X : View) (roots : List ℕ) (s : Step) (o : Made) : Type 0 where
+pub record Stepped (m N limit : ℕ) (W X : View) (roots : List ℕ) (s : Step) (o : Result ℕ Full) : Type 0 where
   pub sound : Sound X
   pub memory : Remembers m X
   pub frame : OpFrame W X

@@ -3,7 +3,6 @@
 
 ghost use Rattle.std.specs.Prelude.{◌≡◌};
 ghost use Rattle.layout.specs.View.{view};
-ghost use Rattle.table.specs.Code.{made_of};
 ghost use Rattle.steps.specs.Steps.{first_operand, second_operand, StepPre};
 ghost use Rattle.steps.specs.Clean.{CleanPre, Cleaned};
 ghost use Rattle.steps.specs.Settle.{SettlePre, SettlePost};
@@ -14,9 +13,10 @@ use cubes::cube;
 use layout::{Table, flip, header_word};
 use memory::forget;
 use operations::{and_of, bit, exists, or_of, shift};
-use table::{Made, made_of};
+use table::Full;
 
 // A step and its operands: bits and EXISTS have a level first; a cube has the bits that are 1 and those that are 0.
+// No closure: what a step means and keeps live is said of it (step_f, live_at), also where it is tried a second time.
 #[derive(Clone, Copy)]
 pub enum Step {
     Bit(u32),
@@ -71,28 +71,26 @@ pub fn operands_of(step: Step) -> Operands
     }
 }
 
-// Runs a step's operation: an arrow, or `Code::FULL` where the rows ran out.
-fn run_step(words: &mut [u32], rows: u32, levels: u32, limit: u32, step: Step) -> u32
+// Tries a step: runs its operation.
+pub fn try_step(
+    words: &mut [u32],
+    rows: u32,
+    levels: u32,
+    limit: u32,
+    step: Step,
+) -> Result<u32, Full>
     requires { TryPre levels rows limit words.old step }
-    ensures { TryPost levels rows limit words.old words.new step (made_of result) }
+    ensures { TryPost levels rows limit words.old words.new step result }
 {
     match step {
         Step::Bit(l) => bit(words, rows, levels, limit, l),
         Step::Cube(o, z) => cube(words, rows, levels, limit, o, z),
-        Step::Not(a) => flip(a),
+        Step::Not(a) => Ok(flip(a)),
         Step::And(a, b) => and_of(words, rows, levels, limit, a, b),
         Step::Or(a, b) => or_of(words, rows, levels, limit, a, b),
         Step::Shift(a) => shift(words, rows, levels, limit, a),
         Step::Exists(x, a) => exists(words, rows, levels, limit, x, a),
     }
-}
-
-// Tries a step.
-pub fn try_step(words: &mut [u32], rows: u32, levels: u32, limit: u32, step: Step) -> Made
-    requires { TryPre levels rows limit words.old step }
-    ensures { TryPost levels rows limit words.old words.new step result }
-{
-    made_of(run_step(words, rows, levels, limit, step))
 }
 
 // Frees the rows that no register, no relation, no lent root, no operand and not one more arrow needs, and forgets what is remembered.
@@ -113,22 +111,20 @@ pub fn settle(
     limit: u32,
     roots: &[u32],
     step: Step,
-    made: Made,
-) -> Made
+    made: Result<u32, Full>,
+) -> Result<u32, Full>
     requires { SettlePre (view rows words.old) roots.now step made }
     ensures { SettlePost limit (view rows words.old) (view rows words.new) roots.now step made result }
 {
-    let Made::At(a) = made else {
-        return Made::Full;
-    };
+    let a = made?;
     if header_word(words, Table::USED) <= limit {
-        return Made::At(a);
+        return Ok(a);
     }
     clean(words, rows, roots, step, a);
     if header_word(words, Table::USED) <= limit {
-        return Made::At(a);
+        return Ok(a);
     }
-    Made::Full
+    Err(Full)
 }
 
 // Collects, and tries a step again.
@@ -139,7 +135,7 @@ pub fn retry(
     limit: u32,
     roots: &[u32],
     step: Step,
-) -> Made
+) -> Result<u32, Full>
     requires { StepPre levels rows limit (view rows words.old) roots.now step }
     ensures { RetriedIn levels rows limit words.old words.new roots.now step result }
 {

@@ -4,7 +4,7 @@ pub mod Fresh
 pub mod Count
 pub mod FindLaws
 pub mod AddLaws
-pub mod CodeLaws
 pub mod MakeLaws
 pub mod Store
 pub mod Keep
+pub mod CodeLaws

@@ -1,19 +1,17 @@
 -- The lookup of a row in a good table. Assumes nothing.
-use Rattle.std.specs.Prelude.{◌≡◌, true, false, ℕ, ◌≤◌, ◌<◌}
+use Rattle.std.specs.Prelude.{◌≡◌, true, false, ℕ, ◌≤◌, ◌<◌, Option, Some, None}
 use Rattle.layout.specs.View.{View}
 use Rattle.rows.specs.Used.{used}
 use Rattle.rows.specs.Index.{Has}
-use Rattle.table.specs.declared.Found.{Found}
-use Rattle.table.specs.declared.Found.TheVariants as found
 
 -- no used row has these three words
 abbrev pub Absent : View → ℕ → ℕ → ℕ → Type 0
 Absent W l lo hi = (j : ℕ) → used W j ≡ true → Has W j l lo hi → ⊥
 
 -- what a lookup answers: the used row with these three words, or that there is none
-abbrev pub FindPost : View → ℕ → ℕ → ℕ → Found → Type 0
-FindPost W l lo hi (found.At i) = (used W i ≡ true) × Has W i l lo hi
-FindPost W l lo hi found.Nothing = Absent W l lo hi
+abbrev pub FindPost : View → ℕ → ℕ → ℕ → Option ℕ → Type 0
+FindPost W l lo hi (Some i) = (used W i ≡ true) × Has W i l lo hi
+FindPost W l lo hi None = Absent W l lo hi
 
 -- what the search for an unused row finds from one row up to another
 pub record FreePost (W : View) (start stop r : ℕ) : Type 0 where

@@ -3,5 +3,5 @@ pub mod Append
 pub mod Fresh
 pub mod Find
 pub mod Add
-pub mod Code
+pub mod Full
 pub mod Make

@@ -4,6 +4,7 @@
 ghost use Rattle.std.specs.Prelude.{◌≡◌, ◌+◌, ◌<◌, ◌≤◌, length};
 ghost use Rattle.layout.specs.Places.{HEADER, USED, words_for};
 ghost use Rattle.layout.specs.View.{view, header_of};
+ghost use Rattle.layout.specs.declared.Refusal.TheVariants as refusal;
 ghost use Rattle.rows.specs.Lookup.{Room};
 ghost use Rattle.rows.specs.Sound.{Good};
 ghost use Rattle.table.specs.Columns.{set_header, set_heads};
@@ -11,11 +12,11 @@ ghost use Rattle.table.specs.Fresh.{emptied};
 ghost use Rattle.table.specs.Append.{appended};
 ghost use Rattle.table.specs.Find.{FindPost, FreePost, UnusedPost};
 ghost use Rattle.table.specs.Add.{row_put};
-ghost use Rattle.table.specs.Code.{made_of};
 ghost use Rattle.table.specs.Make.{MakePre, MakePost, PlainPre, PlainPost, AddPre};
 
 use layout::{
-    Table, arrow_of, flip, get, header_word, is_marked, put, put_head, put_header, put_listed,
+    Refusal, Table, arrow_of, flip, get, header_word, is_marked, put, put_head, put_header,
+    put_listed,
 };
 use rows::{bucket_of, first, row_bucket, same_row, used_row};
 
@@ -24,10 +25,8 @@ fn empty_heads(words: &mut [u32], rows: u32)
     requires { words_for rows ≤ length words.old }
     ensures { view rows words.new ≡ set_heads (view rows words.old) (λ b. 0) }
 {
-    let mut b = 0;
-    while b < rows {
+    for b in 0..rows {
         put_head(words, rows, b, 0);
-        b += 1;
     }
 }
 
@@ -36,10 +35,8 @@ fn write_header(words: &mut [u32], rows: u32, header: &[u32; Table::HEADER])
     requires { words_for rows ≤ length words.old }
     ensures { view rows words.new ≡ set_header (view rows words.old) (header_of header.now) }
 {
-    let mut h = 0;
-    while h < Table::HEADER {
-        put_header(words, rows, h, header[h]);
-        h += 1;
+    for (h, word) in header.iter().enumerate() {
+        put_header(words, rows, h, *word);
     }
 }
 
@@ -53,27 +50,21 @@ pub fn make_empty(words: &mut [u32], n: u32, rows: u32)
     write_header(words, rows, &header);
 }
 
-// Where a row may be found.
-#[derive(Clone, Copy)]
-pub enum Found {
-    At(u32),
-    Nothing,
-}
-
 // The used row with this level, low and high arrow, if there is one.
-fn find(words: &[u32], rows: u32, level: u32, low: u32, high: u32) -> Found
+fn find(words: &[u32], rows: u32, level: u32, low: u32, high: u32) -> Option<u32>
     requires { Good (view rows words.now) }
     ensures { FindPost (view rows words.now) level low high result }
 {
     let mut p = first(words, rows, bucket_of(rows, level, low, high));
+    // Not a for: the walk follows links, and ends where one is 0.
     while p != 0 {
         let j = p - 1;
         if same_row(words, rows, j, level, low, high) {
-            return Found::At(j);
+            return Some(j);
         }
         p = get(words, rows, j, Table::NEXT);
     }
-    Found::Nothing
+    None
 }
 
 // The first unused row from `from` on, or `to`.
@@ -81,14 +72,12 @@ fn free_row(words: &[u32], rows: u32, from: u32, to: u32) -> u32
     requires { Room (view rows words.now) × (from ≤ to) }
     ensures { FreePost (view rows words.now) from to result }
 {
-    let mut i = from;
-    while i < to {
+    for i in from..to {
         if !used_row(words, rows, i) {
             return i;
         }
-        i += 1;
     }
-    i
+    to
 }
 
 // An unused row, or `rows` if all are used. The search starts at the cursor.
@@ -137,84 +126,96 @@ pub fn append(words: &mut [u32], rows: u32, i: u32)
     put_header(words, rows, Table::USED, used + 1);
 }
 
-// What making a row answers: its arrow, or that `limit` rows are used.
+// The rows ran out: why a step has no result.
 #[derive(Clone, Copy)]
-pub enum Made {
-    At(u32),
-    Full,
-}
+pub struct Full;
 
-// The same answer as one number, which a register returns: the arrow, or FULL, which is no arrow.
-#[derive(Clone, Copy)]
-pub struct Code;
+impl From<Full> for Refusal {
+    ghost from_gives = { λ _ e. e ≡ refusal.Full };
 
-impl Code {
-    pub const FULL: u32 = 4294967295;
-}
-
-// What a number answers.
-pub fn made_of(code: u32) -> Made
-    ensures { result ≡ made_of code }
-{
-    if code == Code::FULL {
-        return Made::Full;
+    fn from(_full: Full) -> Refusal {
+        Refusal::Full
     }
-    Made::At(code)
 }
 
 // Adds a row that is not there yet.
-fn add(words: &mut [u32], rows: u32, limit: u32, level: u32, low: u32, high: u32) -> u32
+fn add(
+    words: &mut [u32],
+    rows: u32,
+    limit: u32,
+    level: u32,
+    low: u32,
+    high: u32,
+) -> Result<u32, Full>
     requires { AddPre (view rows words.old) limit level low high }
-    ensures { PlainPost (view rows words.old) (view rows words.new) limit level low high (made_of result) }
+    ensures { PlainPost (view rows words.old) (view rows words.new) limit level low high result }
 {
     let i = unused_row(words, rows);
     if i >= rows {
-        return Code::FULL;
+        return Err(Full);
     }
     put_header(words, rows, Table::CURSOR, i + 1);
     write_row(words, rows, i, level, low, high);
     append(words, rows, i);
-    arrow_of(i)
+    Ok(arrow_of(i))
 }
 
 // Adds a row that is not there yet, while fewer than `limit` are used.
-fn add_within(words: &mut [u32], rows: u32, limit: u32, level: u32, low: u32, high: u32) -> u32
+fn add_within(
+    words: &mut [u32],
+    rows: u32,
+    limit: u32,
+    level: u32,
+    low: u32,
+    high: u32,
+) -> Result<u32, Full>
     requires { AddPre (view rows words.old) limit level low high }
-    ensures { PlainPost (view rows words.old) (view rows words.new) limit level low high (made_of result) }
+    ensures { PlainPost (view rows words.old) (view rows words.new) limit level low high result }
 {
     let used = header_word(words, Table::USED);
     if used >= limit {
-        return Code::FULL;
+        return Err(Full);
     }
     add(words, rows, limit, level, low, high)
 }
 
 // The arrow of level, low and high, which carries no NOT: low where the two are the same, else a row that is found or added.
-fn make_plain(words: &mut [u32], rows: u32, limit: u32, level: u32, low: u32, high: u32) -> u32
+fn make_plain(
+    words: &mut [u32],
+    rows: u32,
+    limit: u32,
+    level: u32,
+    low: u32,
+    high: u32,
+) -> Result<u32, Full>
     requires { PlainPre (view rows words.old) limit level low high }
-    ensures { PlainPost (view rows words.old) (view rows words.new) limit level low high (made_of result) }
+    ensures { PlainPost (view rows words.old) (view rows words.new) limit level low high result }
 {
     if low == high {
-        return low;
+        return Ok(low);
     }
     let found = find(words, rows, level, low, high);
     match found {
-        Found::At(i) => arrow_of(i),
-        Found::Nothing => add_within(words, rows, limit, level, low, high),
+        Some(i) => Ok(arrow_of(i)),
+        None => add_within(words, rows, limit, level, low, high),
     }
 }
 
 // The arrow of level, low and high. Where the high arrow carries a NOT, it is NOT of the arrow of their complements.
-pub fn make(words: &mut [u32], rows: u32, limit: u32, level: u32, low: u32, high: u32) -> u32
+pub fn make(
+    words: &mut [u32],
+    rows: u32,
+    limit: u32,
+    level: u32,
+    low: u32,
+    high: u32,
+) -> Result<u32, Full>
     requires { MakePre (view rows words.old) limit level low high }
-    ensures { MakePost (view rows words.old) (view rows words.new) limit level low high (made_of result) }
+    ensures { MakePost (view rows words.old) (view rows words.new) limit level low high result }
 {
     if !is_marked(high) {
         return make_plain(words, rows, limit, level, low, high);
     }
-    let made = make_plain(words, rows, limit, level, flip(low), flip(high));
-    if made == Code::FULL {
-        return Code::FULL;
-    }
-    flip(made)
+    let made = make_plain(words, rows, limit, level, flip(low), flip(high))?;
+    Ok(flip(made))
 }

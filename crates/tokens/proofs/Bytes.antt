@@ -1,4 +1,5 @@
 -- The table of bytes read backwards: the byte of a token, and that a byte and its token tell each other. Assumes nothing.
+use Rattle.std.specs.Prelude.{Some}
 use mathlib.Core.Path.{◌≡◌, refl, ap, subst, ◌∙◌}
 use mathlib.Core.Bool.{Bool, true, false, ◌&&◌, cond}
 use mathlib.Core.List.{List, [], ◌∷◌}
@@ -10,12 +11,11 @@ use borrow.Author.Tests.{ltb-true, lt-ltb, leb-true}
 use Rattle.tokens.specs.Tokens.{Line, table, lookup, token_of}
 use Rattle.tokens.specs.declared.Leaf.TheVariants.{False, True, Now, Next, Var, Reg}
 use Rattle.tokens.specs.declared.Join.TheVariants.{And, Or}
-use Rattle.tokens.specs.declared.Mode.TheVariants.{All, Some}
+use Rattle.tokens.specs.declared.Mode.TheVariants as mode
 use Rattle.tokens.specs.declared.Fix.TheVariants.{Mu, Nu}
 use Rattle.tokens.specs.declared.Two.TheVariants.{Join, Until}
 use Rattle.tokens.specs.declared.Token.{Token}
 use Rattle.tokens.specs.declared.Token.TheVariants.{Leaf as LeafToken, Not, Both, Modal, Binder}
-use Rattle.tokens.specs.declared.Lead.TheVariants.{Is}
 use Rattle.tokens.proofs.Table.{both_true, end_below, in-line}
 
 abbrev pub byte_of : Token → ℕ
@@ -28,12 +28,12 @@ byte_of (LeafToken (Now p)) = 0x10 + p
 byte_of (LeafToken (Next p)) = 0x20 + p
 byte_of (LeafToken (Var P)) = 0x30 + P
 byte_of (LeafToken (Reg r)) = 0x40 + r
-byte_of (Modal All t) = 0x60 + t
-byte_of (Modal Some t) = 0x68 + t
+byte_of (Modal mode.All t) = 0x60 + t
+byte_of (Modal mode.Some t) = 0x68 + t
 byte_of (Binder Mu P) = 0x70 + P
 byte_of (Binder Nu P) = 0x80 + P
-byte_of (Both (Until Some t)) = 0x90 + t
-byte_of (Both (Until All t)) = 0x98 + t
+byte_of (Both (Until mode.Some t)) = 0x90 + t
+byte_of (Both (Until mode.All t)) = 0x98 + t
 
 -- the token's number is one of its bytes'
 abbrev pub fits : Token → Bool
@@ -51,13 +51,13 @@ fits (Both (Until m t)) = ltb t 8
 
 -- the byte with number p of the table's line after k others
 at-line : (k : ℕ) {l : Line} {ls : List Line} → drop k table ≡ l ∷ ls → end_below l.first (take k table) ≡ true → (p : ℕ)
-    → l.first + p ≤ l.last → token_of (l.first + p) ≡ Is (l.token p)
+    → l.first + p ≤ l.last → token_of (l.first + p) ≡ Some (l.token p)
 at-line k {l} d e p h =
     let same : l.first + p - l.first ≡ p = omega arith in
-    in-line (l.first + p) k d e (omega arith) h ∙ ap (λ (x : ℕ). Is (l.token x)) same
+    in-line (l.first + p) k d e (omega arith) h ∙ ap (λ (x : ℕ). Some (l.token x)) same
 
 -- the byte of a token means it
-pub token_byte : (t : Token) → fits t ≡ true → token_of (byte_of t) ≡ Is t
+pub token_byte : (t : Token) → fits t ≡ true → token_of (byte_of t) ≡ Some t
 token_byte (LeafToken False) h = at-line 0 refl refl 0 (omega arith)
 token_byte (LeafToken True) h = at-line 1 refl refl 0 (omega arith)
 token_byte Not h = at-line 2 refl refl 0 (omega arith)
@@ -67,12 +67,12 @@ token_byte (LeafToken (Now p)) h = at-line 5 refl refl p (omega (arith, ltb-true
 token_byte (LeafToken (Next p)) h = at-line 6 refl refl p (omega (arith, ltb-true p 16 h))
 token_byte (LeafToken (Var P)) h = at-line 7 refl refl P (omega (arith, ltb-true P 16 h))
 token_byte (LeafToken (Reg r)) h = at-line 8 refl refl r (omega (arith, ltb-true r 32 h))
-token_byte (Modal All t) h = at-line 9 refl refl t (omega (arith, ltb-true t 8 h))
-token_byte (Modal Some t) h = at-line 10 refl refl t (omega (arith, ltb-true t 8 h))
+token_byte (Modal mode.All t) h = at-line 9 refl refl t (omega (arith, ltb-true t 8 h))
+token_byte (Modal mode.Some t) h = at-line 10 refl refl t (omega (arith, ltb-true t 8 h))
 token_byte (Binder Mu P) h = at-line 11 refl refl P (omega (arith, ltb-true P 16 h))
 token_byte (Binder Nu P) h = at-line 12 refl refl P (omega (arith, ltb-true P 16 h))
-token_byte (Both (Until Some t)) h = at-line 13 refl refl t (omega (arith, ltb-true t 8 h))
-token_byte (Both (Until All t)) h = at-line 14 refl refl t (omega (arith, ltb-true t 8 h))
+token_byte (Both (Until mode.Some t)) h = at-line 13 refl refl t (omega (arith, ltb-true t 8 h))
+token_byte (Both (Until mode.All t)) h = at-line 14 refl refl t (omega (arith, ltb-true t 8 h))
 
 -- what a byte's token says of the byte
 pub record Right (b : ℕ) (t : Token) : Type 0 where
@@ -138,13 +138,13 @@ table-right = (
   ),
 )
 
-lookup-right : (ls : List Line) → RightLines ls → (b : ℕ) {t : Token} → lookup ls b ≡ Is t → Right b t
+lookup-right : (ls : List Line) → RightLines ls → (b : ℕ) {t : Token} → lookup ls b ≡ Some t → Right b t
 unfolding lookup
 lookup-right [] rs b {t} e = absurd (let z : ◌≡◌ {A = ℕ} 0 1 = cc in omega arith)
 lookup-right (l ∷ ls) rs b {t} e = in-line-or (leb l.first b && leb b l.last) refl e (λ q. lookup-right ls rs.1 b q)
   where
-    in-line-or : (c : Bool) → (leb l.first b && leb b l.last) ≡ c → cond c (Is (l.token (b - l.first))) (lookup ls b) ≡ Is t
-        → (lookup ls b ≡ Is t → Right b t) → Right b t
+    in-line-or : (c : Bool) → (leb l.first b && leb b l.last) ≡ c → cond c (Some (l.token (b - l.first))) (lookup ls b) ≡ Some t
+        → (lookup ls b ≡ Some t → Right b t) → Right b t
     in-line-or true h q later =
         let p = both_true (leb l.first b) (leb b l.last) h in
         let low = leb-true l.first b p.0 in
@@ -155,6 +155,6 @@ lookup-right (l ∷ ls) rs b {t} e = in-line-or (leb l.first b && leb b l.last) 
     in-line-or false h q later = later q
 
 -- a byte's token has that byte
-pub byte_token : (b : ℕ) {t : Token} → token_of b ≡ Is t → Right b t
+pub byte_token : (b : ℕ) {t : Token} → token_of b ≡ Some t → Right b t
 unfolding token_of
 byte_token b e = lookup-right table table-right b e

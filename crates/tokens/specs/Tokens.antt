@@ -1,22 +1,18 @@
 -- The bytes of a formula and what each means, and which tokens a call takes. Definitions alone.
-use Rattle.std.specs.Prelude.{ℕ, ◌-◌, Bool, true, false, ◌&&◌, cond, List, [], ◌∷◌, ◌++◌, ltb, leb, eqb, length, get_or}
+use Rattle.std.specs.Prelude.{ℕ, ◌-◌, Bool, true, false, ◌&&◌, cond, List, [], ◌∷◌, ◌++◌, ltb, leb, eqb, length, get_or, Option, Some, None}
 use Rattle.tokens.specs.declared.Kind.{Kind}
 use Rattle.tokens.specs.declared.Kind.TheVariants.{Relation, Set, Valid}
 use Rattle.tokens.specs.declared.Grammar.{Grammar}
 use Rattle.tokens.specs.declared.Grammar.TheVariants.{Pairs, States, Runs, Bits}
-use Rattle.tokens.specs.declared.Reading.{Reading}
-use Rattle.tokens.specs.declared.Reading.TheVariants.{Is as Reads, Unknown}
 use Rattle.tokens.specs.declared.Leaf.{Leaf}
 use Rattle.tokens.specs.declared.Leaf.TheVariants.{False, True, Now, Next, Var, Reg}
 use Rattle.tokens.specs.declared.Join.TheVariants.{And, Or}
-use Rattle.tokens.specs.declared.Mode.TheVariants.{All, Some}
+use Rattle.tokens.specs.declared.Mode.TheVariants as mode
 use Rattle.tokens.specs.declared.Fix.TheVariants.{Mu, Nu}
 use Rattle.tokens.specs.declared.Two.{Two}
 use Rattle.tokens.specs.declared.Two.TheVariants.{Join, Until}
 use Rattle.tokens.specs.declared.Token.{Token}
 use Rattle.tokens.specs.declared.Token.TheVariants.{Leaf as LeafToken, Not, Both, Modal, Binder}
-use Rattle.tokens.specs.declared.Lead.{Lead}
-use Rattle.tokens.specs.declared.Lead.TheVariants.{Is, Bad}
 
 -- a line of the table of bytes: the bytes from `first` to `last`, and the token of each by its number among them
 pub record Line : Type 0 where
@@ -40,8 +36,8 @@ first_words =
     ∷ line 0x20 0x2F (λ p. LeafToken (Next p))
     ∷ line 0x30 0x3F (λ P. LeafToken (Var P))
     ∷ line 0x40 0x5F (λ r. LeafToken (Reg r))
-    ∷ line 0x60 0x67 (λ t. Modal All t)
-    ∷ line 0x68 0x6F (λ t. Modal Some t)
+    ∷ line 0x60 0x67 (λ t. Modal mode.All t)
+    ∷ line 0x68 0x6F (λ t. Modal mode.Some t)
     ∷ line 0x70 0x7F (λ P. Binder Mu P)
     ∷ line 0x80 0x8F (λ P. Binder Nu P)
     ∷ []
@@ -49,8 +45,8 @@ first_words =
 -- "Version 2 formulas … add 90–97 f g (some run of relation t) and 98–9F f g (every run)"
 abbrev pub added_words : List Line
 added_words =
-    line 0x90 0x97 (λ t. Both (Until Some t))
-    ∷ line 0x98 0x9F (λ t. Both (Until All t))
+    line 0x90 0x97 (λ t. Both (Until mode.Some t))
+    ∷ line 0x98 0x9F (λ t. Both (Until mode.All t))
     ∷ []
 
 -- the table of bytes, both versions
@@ -58,32 +54,32 @@ abbrev pub table : List Line
 table = first_words ++ added_words
 
 -- the token of a byte by the first line that has it
-unfoldable pub lookup : List Line → ℕ → Lead
-lookup [] b = Bad
+unfoldable pub lookup : List Line → ℕ → Option Token
+lookup [] b = None
 lookup (l ∷ ls) b =
     let others = lookup ls b in
-    cond (leb l.first b && leb b l.last) (Is (l.token (b - l.first))) others
+    cond (leb l.first b && leb b l.last) (Some (l.token (b - l.first))) others
 
 -- the meaning of a byte; "any byte outside these rules" has none
-unfoldable pub token_of : ℕ → Lead
+unfoldable pub token_of : ℕ → Option Token
 token_of b = lookup table b
 
 -- "version 1"
-abbrev pub first_of : Kind → Reading
-first_of Relation = Reads Pairs
-first_of Set = Reads States
+abbrev pub first_of : Kind → Option Grammar
+first_of Relation = Some Pairs
+first_of Set = Some States
 -- "A new call valid takes a formula of 00 to 04 and 10 to 1F"
-first_of Valid = Reads Bits
+first_of Valid = Some Bits
 
 -- "Version 2 formulas, for set calls"
-abbrev pub second_of : Kind → Reading
-second_of Relation = Unknown
-second_of Set = Reads Runs
-second_of Valid = Unknown
+abbrev pub second_of : Kind → Option Grammar
+second_of Relation = None
+second_of Set = Some Runs
+second_of Valid = None
 
 -- the grammar of a call's formula, by the version byte
-abbrev pub grammar_of : Kind → ℕ → Reading
-grammar_of k v = cond (eqb v 1) (first_of k) (cond (eqb v 2) (second_of k) Unknown)
+abbrev pub grammar_of : Kind → ℕ → Option Grammar
+grammar_of k v = cond (eqb v 1) (first_of k) (cond (eqb v 2) (second_of k) None)
 
 -- formulas speak of states, by variables, registers, relations and binders too
 abbrev pub is_states : Grammar → Bool
@@ -129,10 +125,10 @@ allowed (Modal m t) n g = is_states g
 allowed (Binder x P) n g = is_states g
 
 -- the token, where the grammar takes it
-abbrev pub taken : ℕ → Grammar → Lead → Lead
-taken n g (Is t) = cond (allowed t n g) (Is t) Bad
-taken n g Bad = Bad
+abbrev pub taken : ℕ → Grammar → Option Token → Option Token
+taken n g (Some t) = cond (allowed t n g) (Some t) None
+taken n g None = None
 
 -- the token at a place, where there is a byte and the grammar takes its token
-unfoldable pub lead_at : ℕ → Grammar → List ℕ → ℕ → Lead
-lead_at n g bs at = cond (ltb at (length bs)) (taken n g (token_of (get_or bs at 0))) Bad
+unfoldable pub lead_at : ℕ → Grammar → List ℕ → ℕ → Option Token
+lead_at n g bs at = cond (ltb at (length bs)) (taken n g (token_of (get_or bs at 0))) None

@@ -1,10 +1,9 @@
 // The tokens of document 01: what each formula byte means, and which tokens a call takes.
 #![tactic(auto)]
 
-ghost use Rattle.std.specs.Prelude.{◌≡◌, ◌≤◌};
+ghost use Rattle.std.specs.Prelude.{◌≡◌, ◌≤◌, Some};
 ghost use Rattle.tokens.specs.Tokens.{token_of, first_of, second_of, grammar_of, is_states, only_now, has_runs, leaf_allowed, two_allowed};
 ghost use Rattle.tokens.specs.Tokens.{allowed, lead_at};
-ghost use Rattle.tokens.specs.declared.Lead.TheVariants.{Is};
 
 // The call that a formula is for.
 #[derive(Clone, Copy)]
@@ -31,13 +30,6 @@ impl Grammar {
 
     // How many variables there are.
     pub const VARIABLES: usize = 16;
-}
-
-// How a call's formula is read, where its version is known.
-#[derive(Clone, Copy)]
-pub enum Reading {
-    Is(Grammar),
-    Unknown,
 }
 
 // A formula of one byte.
@@ -87,37 +79,30 @@ pub enum Token {
     Binder(Fix, u32),
 }
 
-// What stands at a place: a token, or none that can be read.
-#[derive(Clone, Copy)]
-pub enum Lead {
-    Is(Token),
-    Bad,
-}
-
 // The grammar of version 1.
-fn first_of(kind: Kind) -> Reading
+fn first_of(kind: Kind) -> Option<Grammar>
     ensures { result ≡ first_of kind }
 {
     match kind {
-        Kind::Relation => Reading::Is(Grammar::Pairs),
-        Kind::Set => Reading::Is(Grammar::States),
-        Kind::Valid => Reading::Is(Grammar::Bits),
+        Kind::Relation => Some(Grammar::Pairs),
+        Kind::Set => Some(Grammar::States),
+        Kind::Valid => Some(Grammar::Bits),
     }
 }
 
 // The grammar of version 2, which is for set calls.
-fn second_of(kind: Kind) -> Reading
+fn second_of(kind: Kind) -> Option<Grammar>
     ensures { result ≡ second_of kind }
 {
     match kind {
-        Kind::Relation => Reading::Unknown,
-        Kind::Set => Reading::Is(Grammar::Runs),
-        Kind::Valid => Reading::Unknown,
+        Kind::Relation => None,
+        Kind::Set => Some(Grammar::Runs),
+        Kind::Valid => None,
     }
 }
 
-// The grammar of a call's formula, by the version byte.
-pub fn grammar_of(kind: Kind, version: u8) -> Reading
+// The grammar of a call's formula, by the version byte; none where the version is unknown.
+pub fn grammar_of(kind: Kind, version: u8) -> Option<Grammar>
     ensures { result ≡ grammar_of kind version }
 {
     if version == Grammar::VERSION {
@@ -126,58 +111,50 @@ pub fn grammar_of(kind: Kind, version: u8) -> Reading
     if version == Grammar::RUNS_VERSION {
         return second_of(kind);
     }
-    Reading::Unknown
-}
-
-// A byte as a word.
-fn wide(b: u8) -> u32
-    ensures { result ≡ b }
-{
-    b as u32
+    None
 }
 
 // The token of a byte 60 to 6F: its quotient by 8 tells box or diamond, its remainder is the relation.
 fn modal_of(b: u8) -> Token
     requires { (0x60 ≤ b) × (b ≤ 0x6F) }
-    ensures { Is result ≡ token_of b }
+    ensures { Some result ≡ token_of b }
 {
-    let byte = wide(b);
+    // No branch (docs/DECISIONS.md, 37).
     let modes = [Mode::All, Mode::Some];
-    let kind = (byte / 8 - 12) as usize;
-    Token::Modal(modes[kind], byte % 8)
+    let kind = usize::from(b / 8 - 12);
+    Token::Modal(modes[kind], u32::from(b % 8))
 }
 
 // The token of a byte 90 to 9F: its quotient by 8 tells until on some or on every run, its remainder is the relation.
 fn until_of(b: u8) -> Token
     requires { (0x90 ≤ b) × (b ≤ 0x9F) }
-    ensures { Is result ≡ token_of b }
+    ensures { Some result ≡ token_of b }
 {
-    let byte = wide(b);
     let modes = [Mode::Some, Mode::All];
-    let kind = (byte / 8 - 18) as usize;
-    Token::Both(Two::Until(modes[kind], byte % 8))
+    let kind = usize::from(b / 8 - 18);
+    Token::Both(Two::Until(modes[kind], u32::from(b % 8)))
 }
 
-// The meaning of a byte.
-fn token_of(b: u8) -> Lead
+// The meaning of a byte, if it has one.
+fn token_of(b: u8) -> Option<Token>
     ensures { result ≡ token_of b }
 {
-    let byte = wide(b);
+    let byte = u32::from(b);
     match b {
-        0x00 => Lead::Is(Token::Leaf(Leaf::False)),
-        0x01 => Lead::Is(Token::Leaf(Leaf::True)),
-        0x02 => Lead::Is(Token::Not),
-        0x03 => Lead::Is(Token::Both(Two::Join(Join::And))),
-        0x04 => Lead::Is(Token::Both(Two::Join(Join::Or))),
-        0x10..=0x1F => Lead::Is(Token::Leaf(Leaf::Now(byte - 0x10))),
-        0x20..=0x2F => Lead::Is(Token::Leaf(Leaf::Next(byte - 0x20))),
-        0x30..=0x3F => Lead::Is(Token::Leaf(Leaf::Var(byte - 0x30))),
-        0x40..=0x5F => Lead::Is(Token::Leaf(Leaf::Reg(byte - 0x40))),
-        0x60..=0x6F => Lead::Is(modal_of(b)),
-        0x70..=0x7F => Lead::Is(Token::Binder(Fix::Mu, byte - 0x70)),
-        0x80..=0x8F => Lead::Is(Token::Binder(Fix::Nu, byte - 0x80)),
-        0x90..=0x9F => Lead::Is(until_of(b)),
-        _ => Lead::Bad,
+        0x00 => Some(Token::Leaf(Leaf::False)),
+        0x01 => Some(Token::Leaf(Leaf::True)),
+        0x02 => Some(Token::Not),
+        0x03 => Some(Token::Both(Two::Join(Join::And))),
+        0x04 => Some(Token::Both(Two::Join(Join::Or))),
+        0x10..=0x1F => Some(Token::Leaf(Leaf::Now(byte - 0x10))),
+        0x20..=0x2F => Some(Token::Leaf(Leaf::Next(byte - 0x20))),
+        0x30..=0x3F => Some(Token::Leaf(Leaf::Var(byte - 0x30))),
+        0x40..=0x5F => Some(Token::Leaf(Leaf::Reg(byte - 0x40))),
+        0x60..=0x6F => Some(modal_of(b)),
+        0x70..=0x7F => Some(Token::Binder(Fix::Mu, byte - 0x70)),
+        0x80..=0x8F => Some(Token::Binder(Fix::Nu, byte - 0x80)),
+        0x90..=0x9F => Some(until_of(b)),
+        _ => None,
     }
 }
 
@@ -260,17 +237,14 @@ fn token_allowed(t: Token, n: u32, grammar: Grammar) -> bool
 }
 
 // The token at a place, where there is a byte and the grammar takes its token.
-pub fn lead_at(bytes: &[u8], n: u32, grammar: Grammar, at: usize) -> Lead
+pub fn lead_at(bytes: &[u8], n: u32, grammar: Grammar, at: usize) -> Option<Token>
     ensures { result ≡ lead_at n grammar bytes.now at }
 {
     if at < bytes.len() {
-        let Lead::Is(t) = token_of(bytes[at]) else {
-            return Lead::Bad;
-        };
+        let t = token_of(bytes[at])?;
         if token_allowed(t, n, grammar) {
-            return Lead::Is(t);
+            return Some(t);
         }
-        return Lead::Bad;
     }
-    Lead::Bad
+    None
 }

@@ -1,16 +1,15 @@
 -- `empty_tallies`: a turn empties one account more. Assumes nothing.
-use Rattle.std.proofs.Common.{◌≡◌, ◌<◌, length, arith, add-one}
-use Rattle.accounts.specs.Listed.{emptied_to}
-use Rattle.accounts.proofs.Listed.{emptied-next}
+use Rattle.std.proofs.Common.{◌≡◌, take, arith, add-one}
+use Rattle.std.proofs.lemmas.List.{length-take}
+use Rattle.accounts.proofs.Listed.{emptied-next, emptied-front}
 use Rattle.accounts.proofs.empty_tallies.Goals as goal
 
-pub loop-i-preserved : goal.loop-i-preserved
-loop-i-preserved c =
-    let h : c.loop-i.i < length c.args.accounts.now = omega arith in (
-      omega arith,
-      rw (add-one, c.with_none-next.ensures, c.loop-i.invariant.1) (emptied-next c.loop-i.i c.args.accounts.now h),
-    )
+pub loop-a-preserved : goal.loop-a-preserved
+loop-a-preserved c =
+    let l = take c.args.count c.args.accounts.now in
+    rw (add-one, c.with_none.ensures, c.loop-a.invariant) (emptied-next c.loop-a.a-index l c.loop-a-test.true)
 
 pub returns : goal.returns
 returns c =
-    let e : c.loop-i.i ≡ c.args.count = omega arith in rw e at c.loop-i.invariant.1
+    let e : c.loop-a.a-index ≡ c.args.count = omega (arith, length-take c.args.count c.args.accounts.now) in
+    rw (c.loop-a.invariant, e) (emptied-front c.args.count c.args.accounts.now)

@@ -1,10 +1,7 @@
--- `empty_tallies`: the first i accounts are emptied. Assumes nothing.
-use Rattle.std.proofs.Common.{◌≡◌, ◌-◌, ◌≤◌}
+-- `empty_tallies`: the accounts passed are emptied. Assumes nothing.
+use Rattle.std.proofs.Common.{◌≡◌, take}
 use Rattle.accounts.specs.Listed.{emptied_to}
 use Rattle.accounts.proofs.empty_tallies.Given as goal
 
-abbrev pub invariant-loop-i : goal.invariant-loop-i
-invariant-loop-i l = (l.i ≤ l.count) × (l.accounts ≡ emptied_to l.i l.fn.accounts)
-
-abbrev pub decreases-loop-i : goal.decreases-loop-i
-decreases-loop-i l = l.count - l.i
+abbrev pub invariant-loop-a : goal.invariant-loop-a
+invariant-loop-a l = l.a-items ≡ emptied_to l.a-index (take l.count l.fn.accounts)

@@ -19,8 +19,8 @@ obey_clear_spec =
     (λ c κs. search rules)
     (λ c. search rules)
     (λ c. call-told _ tt c.clear_unchecked.ensures
-    (ap cleared_reply c.in-Done.is) c.plain.ensures)
+    (ap cleared_reply c.in-Ok.is) c.plain.ensures)
     (λ c. search rules)
     (λ c. call-told _ tt c.clear_unchecked.ensures
-    (ap cleared_reply c.in-Refused.is ∙ ap plain (sym c.refusal_number.ensures))
-    c.plain-in-Refused.ensures))
+    (ap cleared_reply c.in-Err.is ∙ ap plain (sym c.from.ensures))
+    c.plain-in-Err.ensures))

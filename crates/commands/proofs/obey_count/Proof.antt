@@ -18,9 +18,9 @@ obey_count_spec =
     (λ c κs. search rules)
     (λ c κs. search rules)
     (λ c. search rules)
-    (λ c. count-told _ c.count_unchecked.ensures (ap answer_reply c.in-Value.is)
+    (λ c. count-told _ c.count_unchecked.ensures (ap answer_reply c.in-Ok.is)
     c.plain.ensures)
     (λ c. search rules)
     (λ c. count-told _ c.count_unchecked.ensures
-    (ap answer_reply c.in-Refused.is ∙ ap plain (sym c.refusal_number.ensures))
-    c.plain-in-Refused.ensures))
+    (ap answer_reply c.in-Err.is ∙ ap plain (sym c.from.ensures))
+    c.plain-in-Err.ensures))

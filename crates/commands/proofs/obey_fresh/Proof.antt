@@ -17,9 +17,9 @@ obey_fresh_spec =
     (λ c κs. search rules)
     (λ c. search rules)
     (λ c. fresh-ready c.fresh.ensures.0
-    c.fresh.ensures.1 c.in-Ready.is c.plain.ensures)
+    c.fresh.ensures.1 c.in-Ok.is c.plain.ensures)
     (λ c. search rules)
     (λ c. fresh-refused c.fresh.ensures.0
-    c.fresh.ensures.1 c.in-Refused.x
-    c.in-Refused.is (refusal-some c.in-Refused.x)
-    c.refusal_number.ensures c.plain-in-Refused.ensures))
+    c.fresh.ensures.1 c.in-Err.x
+    c.in-Err.is (refusal-some c.in-Err.x)
+    c.from.ensures c.plain-in-Err.ensures))

@@ -12,4 +12,4 @@ unsound_spec =
     (tie.spec
     (λ c κs. search rules)
     (λ c κs. search rules)
-    (λ c. c.plain.ensures ∙ ap (λ (k : ℕ). plain_outcome c.args.operation k 0) c.refusal_number.ensures))
+    (λ c. c.plain.ensures ∙ ap (λ (k : ℕ). plain_outcome c.args.operation k 0) c.from.ensures))

@@ -14,11 +14,11 @@ take_counted_spec =
     (λ c. search rules)
     (λ c κs. let z = (first-pre c.requires.0
     c.try_step-made.ensures
-    c.in-At.is).sound.good.sizes.room in omega arith)
+    c.in-Ok.is).sound.good.sizes.room in omega arith)
     (λ c. search rules)
     (λ c. counted-few c.requires.0
     c.requires.1
-    c.in-At.is
+    c.in-Ok.is
     c.try_step-made.ensures c.header_word.ensures
     c.if-header_word-limit.true)
     (λ c κs.
@@ -26,7 +26,7 @@ take_counted_spec =
     (λ c κs. first-pre
     c.requires.0
     c.try_step-made.ensures
-    c.in-At.is)
+    c.in-Ok.is)
     (λ c. search rules)
     (λ c κs. c.requires.1.base.size)
     (λ c κs. again_pre
@@ -39,14 +39,14 @@ take_counted_spec =
     c.requires.1 c.forget_sizes.ensures
     (stepped-first
     c.requires.0
-    c.in-At.is
+    c.in-Ok.is
     c.try_step-made.ensures c.settle.ensures))
     (λ c. search rules)
     (λ c. search rules)
     (λ c. counted-freed
     c.requires.0
-    c.requires.1 c.forget_sizes-in-Full.ensures
+    c.requires.1 c.forget_sizes-in-Err.ensures
     (stepped_again
-    c.requires.0 c.in-Full.is
+    c.requires.0 c.in-Err.is
     c.try_step-made.ensures
     c.retry.ensures)))

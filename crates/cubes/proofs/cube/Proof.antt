@@ -1,12 +1,8 @@
 -- `cube` meets its contract: a bit that clashes, or that no state has, leaves nothing; else all bits from the first on. Assumes nothing.
-use native.Mathlib.Omega.{arith}
 use Rattle.cubes.proofs.CubeLaws.{cube-beyond, cube_clash, cube-starts, cube-whole}
 use borrow.Author.Rules.{rules}
 use Rattle.cubes.proofs.cube.Statement.{statement}
 use Rattle.cubes.proofs.cube.Tie as tie
-use Rattle.cubes.proofs.cube.Reads as reads
-use Rattle.cubes.proofs.cube.Lts as lts
-use Rattle.cubes.proofs.cube_from.Reads as cube-from-reads
 
 pub cube_spec : {M : Type 1} → statement M
 cube_spec =

@@ -15,4 +15,4 @@ until_body_spec =
     (λ c. search rules)
     (λ c. search rules)
     (λ c. body_unread c.syntax.ensures c.in_default.is)
-    (λ c. body-read c.syntax.ensures c.in-Past.is))
+    (λ c. body-read c.syntax.ensures c.in-Some.is))

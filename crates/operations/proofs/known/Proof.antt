@@ -11,7 +11,7 @@ pub known_spec : {M : Type 1} → statement M
 known_spec =
     tie.close
     (tie.spec (λ c κs. search rules) (λ c. search rules)
-    (λ c. at_once (sym c.short-found.ensures ∙ c.in-At.is)) (λ c. search rules)
+    (λ c. at_once (sym c.short-found.ensures ∙ c.in-Some.is)) (λ c. search rules)
     (λ c κs. search rules)
     (λ c. known-recalled
     (view c.args.rows c.args.words.now)

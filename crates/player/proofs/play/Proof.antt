@@ -20,21 +20,21 @@ play_spec =
       (refl, refl),
     ))
     (λ c. let (cs, e, i) = subst (CountPost c.args.bytes.now)
-    c.in-Records.is c.count_records.ensures in
+    c.in-Some.is c.count_records.ensures in
     ((cs, e, omega (arith, c.if-list-count.true)), (refl, refl)))
     (λ c. let (cs, e, i) = subst (CountPost c.args.bytes.now)
-    c.in-Records.is c.count_records.ensures in
+    c.in-Some.is c.count_records.ensures in
     (omega arith, all_done (all_none _ _ cs e i c.if-count-eq0.true) e (i ∙ c.if-count-eq0.true)))
     (λ c κs. let (cs, e, i) =
     subst (CountPost c.args.bytes.now)
-    c.in-Records.is
+    c.in-Some.is
     c.count_records.ensures in
     (cs, e, omega (arith, c.if-list-count.false)))
     (λ c. search rules)
     (λ c. search rules)
     (λ c. let (cs, e, i) =
     subst (CountPost
-    c.args.bytes.now) c.in-Records.is
+    c.args.bytes.now) c.in-Some.is
     c.count_records.ensures in (
       omega (arith, c.if-list-count.false),
       all_done c.obey_all.ensures e i,

@@ -2,7 +2,7 @@
 -- it is counted itself; 2n minus the level falls. Assumes nothing.
 use borrow.Author.Rules.{rules}
 use borrow.Author.Tests.{not-false}
-use mathlib.Core.Path.{refl, sym, ◌∙◌}
+use mathlib.Core.Path.{sym, ◌∙◌}
 use mathlib.Core.Bool.{true≢false}
 use native.Mathlib.Omega.{arith}
 use Prim.Native.Nat.{◌+◌, ◌*◌, ℕ, ◌<◌}
@@ -111,7 +111,7 @@ pub +survey_part_survey_row_spec : {M : Type 1} → statement M
     (λ c. search rules)
     (λ c. λ e. absurd (true≢false (sym e)))
     (λ c κs. cover_asks c.requires.1.0
-    c.in-At.is c.odd_known-known.ensures)
+    c.in-Some.is c.odd_known-known.ensures)
     (λ c κs.
     c.requires.1.1)
     (λ c κs. survey-place
@@ -120,7 +120,7 @@ pub +survey_part_survey_row_spec : {M : Type 1} → statement M
     (λ c κs. low-asks
     c.requires.1.0
     c.requires.1.1 c.row_of.ensures
-    c.in-At.is
+    c.in-Some.is
     c.odd_known-known.ensures c.mark_added.ensures
     c.node_at-n.ensures
     c.requires.0
@@ -137,7 +137,7 @@ pub +survey_part_survey_row_spec : {M : Type 1} → statement M
     c.requires.1.0
     c.requires.1.1
     c.row_of.ensures
-    c.in-At.is
+    c.in-Some.is
     c.odd_known-known.ensures
     c.mark_added.ensures
     c.node_at-n.ensures
@@ -168,7 +168,7 @@ pub +survey_part_survey_row_spec : {M : Type 1} → statement M
     c.requires.1.0
     c.requires.1.1
     c.row_of.ensures
-    c.in-At.is
+    c.in-Some.is
     c.odd_known-known.ensures
     c.mark_added.ensures
     c.node_at-n.ensures
@@ -195,7 +195,7 @@ pub +survey_part_survey_row_spec : {M : Type 1} → statement M
     c.requires.1.0
     c.requires.1.1
     c.row_of.ensures
-    c.in-At.is
+    c.in-Some.is
     c.odd_known-known.ensures
     c.mark_added.ensures
     c.node_at-n.ensures

@@ -3,9 +3,6 @@ use Rattle.soundness.specs.Lists.{left_out, put}
 use borrow.Author.Rules.{rules}
 use Rattle.soundness.proofs.arrows.keep_open.Statement.{statement}
 use Rattle.soundness.proofs.arrows.keep_open.Tie as tie
-use Rattle.soundness.proofs.arrows.keep_open.Reads as reads
-use Rattle.soundness.proofs.arrows.keep_open.Lts as lts
-use Rattle.soundness.proofs.arrows.known.Reads as known-reads
 
 pub keep_open_spec : {M : Type 1} → statement M
 keep_open_spec =

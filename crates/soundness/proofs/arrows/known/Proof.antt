@@ -3,10 +3,6 @@ use mathlib.Core.Logic.{inl, inr}
 use borrow.Author.Rules.{rules}
 use Rattle.soundness.proofs.arrows.known.Statement.{statement}
 use Rattle.soundness.proofs.arrows.known.Tie as tie
-use Rattle.soundness.proofs.arrows.known.Reads as reads
-use Rattle.soundness.proofs.arrows.known.Lts as lts
-use Rattle.soundness.proofs.arrows.opposite.Reads as opposite-reads
-use Rattle.soundness.proofs.arrows.seen.Reads as seen-reads
 
 pub known_spec : {M : Type 1} → statement M
 known_spec =

@@ -4,9 +4,6 @@ use mathlib.Core.Bool.{true≢false}
 use borrow.Author.Rules.{rules}
 use Rattle.soundness.proofs.arrows.opposite.Statement.{statement}
 use Rattle.soundness.proofs.arrows.opposite.Tie as tie
-use Rattle.soundness.proofs.arrows.opposite.Reads as reads
-use Rattle.soundness.proofs.arrows.opposite.Lts as lts
-use Rattle.layout.proofs.flip.Reads as flip-reads
 
 pub opposite_spec : {M : Type 1} → statement M
 opposite_spec =

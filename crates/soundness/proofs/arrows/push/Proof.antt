@@ -3,10 +3,6 @@ use Rattle.soundness.proofs.ListsLaws.{pushed_not, pushed_new}
 use borrow.Author.Rules.{rules}
 use Rattle.soundness.proofs.arrows.push.Statement.{statement}
 use Rattle.soundness.proofs.arrows.push.Tie as tie
-use Rattle.soundness.proofs.arrows.push.Reads as reads
-use Rattle.soundness.proofs.arrows.push.Lts as lts
-use Rattle.soundness.proofs.arrows.slot.Reads as slot-reads
-use Rattle.soundness.proofs.arrows.stands.Reads as stands-reads
 
 pub push_spec : {M : Type 1} → statement M
 push_spec =

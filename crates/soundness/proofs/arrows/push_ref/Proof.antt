@@ -4,9 +4,6 @@ use Rattle.soundness.proofs.ListsLaws.{pushed_not}
 use borrow.Author.Rules.{rules}
 use Rattle.soundness.proofs.arrows.push_ref.Statement.{statement}
 use Rattle.soundness.proofs.arrows.push_ref.Tie as tie
-use Rattle.soundness.proofs.arrows.push_ref.Reads as reads
-use Rattle.soundness.proofs.arrows.push_ref.Lts as lts
-use Rattle.soundness.proofs.arrows.push.Reads as push-reads
 
 pub push_ref_spec : {M : Type 1} → statement M
 push_ref_spec =

@@ -5,9 +5,6 @@ use Rattle.soundness.proofs.PairsLaws.{puts}
 use borrow.Author.Rules.{rules}
 use Rattle.soundness.proofs.arrows.remember.Statement.{statement}
 use Rattle.soundness.proofs.arrows.remember.Tie as tie
-use Rattle.soundness.proofs.arrows.remember.Reads as reads
-use Rattle.soundness.proofs.arrows.remember.Lts as lts
-use Rattle.soundness.proofs.arrows.place.Reads as place-reads
 
 pub remember_spec : {M : Type 1} → statement M
 remember_spec =

@@ -4,9 +4,6 @@ use mathlib.Core.Bool.{true≢false}
 use borrow.Author.Rules.{rules}
 use Rattle.soundness.proofs.arrows.seen.Statement.{statement}
 use Rattle.soundness.proofs.arrows.seen.Tie as tie
-use Rattle.soundness.proofs.arrows.seen.Reads as reads
-use Rattle.soundness.proofs.arrows.seen.Lts as lts
-use Rattle.soundness.proofs.arrows.place.Reads as place-reads
 
 pub seen_spec : {M : Type 1} → statement M
 seen_spec =

@@ -5,8 +5,6 @@ use native.Mathlib.Omega.{arith}
 use borrow.Author.Rules.{rules}
 use Rattle.soundness.proofs.arrows.stands.Statement.{statement}
 use Rattle.soundness.proofs.arrows.stands.Tie as tie
-use Rattle.soundness.proofs.arrows.stands.Reads as reads
-use Rattle.soundness.proofs.arrows.stands.Lts as lts
 
 pub stands_spec : {M : Type 1} → statement M
 stands_spec =

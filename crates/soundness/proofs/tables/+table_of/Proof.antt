@@ -6,7 +6,7 @@ use Rattle.soundness.proofs.TablesLaws.{far_to, led, recalled, asked-arrow, row-
 use Rattle.layout.proofs.Arrows.{row-yes}
 use Rattle.layout.specs.View.{view}
 use native.Mathlib.Omega.{arith}
-use mathlib.Core.Path.{refl, ◌∙◌}
+use mathlib.Core.Path.{refl}
 use mathlib.Core.Logic.{inl, inr}
 use Prim.Native.Nat.{ℕ, ◌<◌}
 use borrow.Fn.Kinds.{In}

@@ -5,12 +5,6 @@ use Rattle.soundness.proofs.TablesLaws.{row_led, recalled}
 use borrow.Author.Rules.{rules}
 use Rattle.soundness.proofs.tables.arrow_cells.Statement.{statement}
 use Rattle.soundness.proofs.tables.arrow_cells.Tie as tie
-use Rattle.soundness.proofs.tables.arrow_cells.Reads as reads
-use Rattle.soundness.proofs.tables.arrow_cells.Lts as lts
-use Rattle.layout.proofs.row_of.Reads as row-of-reads
-use Rattle.soundness.proofs.tables.carried.Reads as carried-reads
-use Rattle.soundness.proofs.tables.recall.Reads as recall-reads
-use Rattle.soundness.proofs.tables.table_of.Reads as table-of-reads
 
 pub arrow_cells_spec : {M : Type 1} → statement M
 arrow_cells_spec =

@@ -1,14 +1,10 @@
 -- `carried` meets its contract: NOT exchanges the halves. Assumes nothing.
 use Rattle.soundness.specs.Tables.{carried_cells}
-use Rattle.layout.specs.Arrows.{is_marked}
 use mathlib.Core.Path.{sym, ap, ◌∙◌}
 use mathlib.Core.Bool.{Bool}
 use borrow.Author.Rules.{rules}
 use Rattle.soundness.proofs.tables.carried.Statement.{statement}
 use Rattle.soundness.proofs.tables.carried.Tie as tie
-use Rattle.soundness.proofs.tables.carried.Reads as reads
-use Rattle.soundness.proofs.tables.carried.Lts as lts
-use Rattle.layout.proofs.is_marked.Reads as is-marked-reads
 
 pub carried_spec : {M : Type 1} → statement M
 carried_spec =

@@ -3,8 +3,6 @@ use Rattle.soundness.proofs.Masks.{high-past}
 use borrow.Author.Rules.{rules}
 use Rattle.soundness.proofs.tables.high_cells.Statement.{statement}
 use Rattle.soundness.proofs.tables.high_cells.Tie as tie
-use Rattle.soundness.proofs.tables.high_cells.Reads as reads
-use Rattle.soundness.proofs.tables.high_cells.Lts as lts
 
 pub high_cells_spec : {M : Type 1} → statement M
 high_cells_spec =

@@ -3,9 +3,6 @@ use mathlib.Core.Path.{refl}
 use borrow.Author.Rules.{rules}
 use Rattle.soundness.proofs.tables.keep.Statement.{statement}
 use Rattle.soundness.proofs.tables.keep.Tie as tie
-use Rattle.soundness.proofs.tables.keep.Reads as reads
-use Rattle.soundness.proofs.tables.keep.Lts as lts
-use Rattle.layout.proofs.get.Reads as get-reads
 
 pub keep_spec : {M : Type 1} → statement M
 keep_spec =

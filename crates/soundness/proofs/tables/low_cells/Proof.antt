@@ -3,8 +3,6 @@ use Rattle.soundness.proofs.Masks.{low-past}
 use borrow.Author.Rules.{rules}
 use Rattle.soundness.proofs.tables.low_cells.Statement.{statement}
 use Rattle.soundness.proofs.tables.low_cells.Tie as tie
-use Rattle.soundness.proofs.tables.low_cells.Reads as reads
-use Rattle.soundness.proofs.tables.low_cells.Lts as lts
 
 pub low_cells_spec : {M : Type 1} → statement M
 low_cells_spec =

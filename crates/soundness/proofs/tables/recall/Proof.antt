@@ -3,9 +3,6 @@ use mathlib.Core.Path.{refl}
 use borrow.Author.Rules.{rules}
 use Rattle.soundness.proofs.tables.recall.Statement.{statement}
 use Rattle.soundness.proofs.tables.recall.Tie as tie
-use Rattle.soundness.proofs.tables.recall.Reads as reads
-use Rattle.soundness.proofs.tables.recall.Lts as lts
-use Rattle.layout.proofs.get.Reads as get-reads
 
 pub recall_spec : {M : Type 1} → statement M
 recall_spec =

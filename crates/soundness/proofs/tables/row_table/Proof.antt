@@ -4,11 +4,6 @@ use native.Mathlib.Omega.{arith}
 use borrow.Author.Rules.{rules}
 use Rattle.soundness.proofs.tables.row_table.Statement.{statement}
 use Rattle.soundness.proofs.tables.row_table.Tie as tie
-use Rattle.soundness.proofs.tables.row_table.Reads as reads
-use Rattle.soundness.proofs.tables.row_table.Lts as lts
-use Rattle.layout.proofs.get.Reads as get-reads
-use Rattle.soundness.proofs.tables.class_of.Reads as class-of-reads
-use Rattle.soundness.proofs.tables.join.Reads as join-reads
 
 pub row_table_spec : {M : Type 1} → statement M
 row_table_spec =

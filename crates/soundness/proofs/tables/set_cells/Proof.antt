@@ -6,9 +6,6 @@ use native.Mathlib.Omega.{arith}
 use borrow.Author.Rules.{rules}
 use Rattle.soundness.proofs.tables.set_cells.Statement.{statement}
 use Rattle.soundness.proofs.tables.set_cells.Tie as tie
-use Rattle.soundness.proofs.tables.set_cells.Reads as reads
-use Rattle.soundness.proofs.tables.set_cells.Lts as lts
-use Rattle.soundness.proofs.tables.set_table.Reads as set-table-reads
 
 pub set_cells_spec : {M : Type 1} → statement M
 set_cells_spec =

@@ -4,10 +4,6 @@ use Rattle.layout.specs.View.{view}
 use Rattle.soundness.proofs.Contained.{row_at, level-read, deep-yes, deep-no}
 use Rattle.soundness.proofs.within.deep.Statement.{statement}
 use Rattle.soundness.proofs.within.deep.Tie as tie
-use Rattle.soundness.proofs.within.deep.Reads as reads
-use Rattle.soundness.proofs.within.deep.Lts as lts
-use Rattle.layout.proofs.get.Reads as get-reads
-use Rattle.layout.proofs.row_of.Reads as row-of-reads
 
 pub deep_spec : {M : Type 1} → statement M
 deep_spec =

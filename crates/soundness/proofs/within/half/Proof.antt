@@ -8,11 +8,6 @@ use Rattle.soundness.proofs.ListsLaws.{half-stays, half-read-other, half-read}
 use borrow.Author.Rules.{rules}
 use Rattle.soundness.proofs.within.half.Statement.{statement}
 use Rattle.soundness.proofs.within.half.Tie as tie
-use Rattle.soundness.proofs.within.half.Reads as reads
-use Rattle.soundness.proofs.within.half.Lts as lts
-use Rattle.layout.proofs.carry.Reads as carry-reads
-use Rattle.layout.proofs.get.Reads as get-reads
-use Rattle.layout.proofs.row_of.Reads as row-of-reads
 
 pub half_spec : {M : Type 1} → statement M
 half_spec =

@@ -5,11 +5,6 @@ use Rattle.soundness.proofs.Contained.{halved_here}
 use borrow.Author.Rules.{rules}
 use Rattle.soundness.proofs.within.halve.Statement.{statement}
 use Rattle.soundness.proofs.within.halve.Tie as tie
-use Rattle.soundness.proofs.within.halve.Reads as reads
-use Rattle.soundness.proofs.within.halve.Lts as lts
-use Rattle.layout.proofs.carry.Reads as carry-reads
-use Rattle.layout.proofs.get.Reads as get-reads
-use Rattle.layout.proofs.row_of.Reads as row-of-reads
 
 pub halve_spec : {M : Type 1} → statement M
 halve_spec =

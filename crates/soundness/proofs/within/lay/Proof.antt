@@ -7,12 +7,6 @@ use Rattle.soundness.proofs.LaidLaws.{halves_again, laid-whole, laid-halves}
 use borrow.Author.Rules.{rules}
 use Rattle.soundness.proofs.within.lay.Statement.{statement}
 use Rattle.soundness.proofs.within.lay.Tie as tie
-use Rattle.soundness.proofs.within.lay.Reads as reads
-use Rattle.soundness.proofs.within.lay.Lts as lts
-use Rattle.soundness.proofs.within.cut.Reads as cut-reads
-use Rattle.soundness.proofs.within.halve.Reads as halve-reads
-use Rattle.soundness.proofs.within.halves.Reads as halves-reads
-use Rattle.soundness.proofs.within.top_of.Reads as top-of-reads
 
 pub lay_spec : {M : Type 1} → statement M
 lay_spec =

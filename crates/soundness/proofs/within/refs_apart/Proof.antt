@@ -8,12 +8,6 @@ use Rattle.soundness.proofs.WalkLaws.{walk-asked, refs-told}
 use borrow.Author.Rules.{rules}
 use Rattle.soundness.proofs.within.refs_apart.Statement.{statement}
 use Rattle.soundness.proofs.within.refs_apart.Tie as tie
-use Rattle.soundness.proofs.within.refs_apart.Reads as reads
-use Rattle.soundness.proofs.within.refs_apart.Lts as lts
-use Rattle.layout.proofs.header_word.Reads as header-word-reads
-use Rattle.soundness.proofs.within.apart.Reads as apart-reads
-use Rattle.soundness.proofs.within.base_of.Reads as base-of-reads
-use Rattle.soundness.proofs.within.list_refs.Reads as list-refs-reads
 
 pub refs_apart_spec : {M : Type 1} → statement M
 refs_apart_spec =

@@ -4,12 +4,6 @@ use native.Mathlib.Omega.{arith}
 use Rattle.soundness.proofs.WalkLaws.{least-asked, lay-asked, stepped}
 use Rattle.soundness.proofs.within.step.Statement.{statement}
 use Rattle.soundness.proofs.within.step.Tie as tie
-use Rattle.soundness.proofs.within.step.Reads as reads
-use Rattle.soundness.proofs.within.step.Lts as lts
-use Rattle.soundness.proofs.arrows.keep_all_open.Reads as keep-all-open-reads
-use Rattle.soundness.proofs.within.lay.Reads as lay-reads
-use Rattle.soundness.proofs.within.least.Reads as least-reads
-use Rattle.soundness.proofs.within.top_of.Reads as top-of-reads
 
 pub step_spec : {M : Type 1} → statement M
 step_spec =

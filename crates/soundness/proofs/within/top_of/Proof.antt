@@ -5,10 +5,6 @@ use Rattle.soundness.proofs.Contained.{row_at, level-read}
 use borrow.Author.Rules.{rules}
 use Rattle.soundness.proofs.within.top_of.Statement.{statement}
 use Rattle.soundness.proofs.within.top_of.Tie as tie
-use Rattle.soundness.proofs.within.top_of.Reads as reads
-use Rattle.soundness.proofs.within.top_of.Lts as lts
-use Rattle.layout.proofs.get.Reads as get-reads
-use Rattle.layout.proofs.row_of.Reads as row-of-reads
 
 pub top_of_spec : {M : Type 1} → statement M
 top_of_spec =

@@ -5,9 +5,6 @@ use Rattle.soundness.proofs.Contained.{refs-asked}
 use borrow.Author.Rules.{rules}
 use Rattle.soundness.proofs.within.wide_apart.Statement.{statement}
 use Rattle.soundness.proofs.within.wide_apart.Tie as tie
-use Rattle.soundness.proofs.within.wide_apart.Reads as reads
-use Rattle.soundness.proofs.within.wide_apart.Lts as lts
-use Rattle.soundness.proofs.within.refs_apart.Reads as refs-apart-reads
 
 pub wide_apart_spec : {M : Type 1} → statement M
 wide_apart_spec =
