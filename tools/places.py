@@ -8,7 +8,8 @@
 5 together: groups of three parameters or more, in eight functions or more; parts of clauses that stand in three contracts or more
 6 buffers: functions that take a slice and, beside it, from where or up to where it is used
 7 switches: enums whose only use is to say which step runs, and arrays of such
-8 proofs: proofs that walk a function's code by hand (Proof.antt), and answers (Answers.antt)"""
+8 proofs: proofs that walk a function's code by hand (Proof.antt), answers (Answers.antt), and laws of proofs/ that nothing cites, nor
+  README or docs/ name"""
 import collections, glob, itertools, re, sys
 
 args = [a for a in sys.argv[1:] if a != '-v']
@@ -37,7 +38,7 @@ def enums():
 found = collections.OrderedDict((k, []) for k in [
     '1 enums with a failure', '1 structs with a flag', '1 a number for none or for a reason', '2 pairs of one shape', '2 lesser or greater of two',
     '3 loops', '3 of these, counted by hand', '4 conversions and numbers by hand', '5 groups of parameters', '5 parts of clauses',
-    '6 slices with a range beside', '7 switches', '8 Proof.antt', '8 Answers.antt'])
+    '6 slices with a range beside', '7 switches', '8 Proof.antt', '8 Answers.antt', '8 laws that nothing cites'])
 for path, at, name, variants in enums():
     if name != 'Refusal' and FAILURES & set(variants):
         found['1 enums with a failure'].append(f'{path}:{at} {name} {" ".join(variants)}')
@@ -84,6 +85,16 @@ for path, text in files.items():
     for m in re.finditer(r'let \w+ = \[\w+::\w+, \w+::\w+\];', text): found['7 switches'].append(f'{path}:{line(text, m.start())} {m[0]}')
 found['8 Proof.antt'] = sorted(glob.glob(f'{root}/crates/*/proofs/**/Proof.antt', recursive=True))
 found['8 Answers.antt'] = sorted(glob.glob(f'{root}/crates/*/proofs/**/Answers.antt', recursive=True))
+antt = {f[len(root) + 1:]: open(f).read() for part in ['specs', 'proofs'] for f in sorted(glob.glob(f'{root}/crates/*/{part}/**/*.antt', recursive=True))}
+pages = [f for f in glob.glob(f'{root}/docs/**/*.md', recursive=True) if 'PORT' not in f and 'DESIGN' not in f] + [f'{root}/README.md']
+words = lambda text: re.findall(r"[\w'₁₂₃\-]+", text)
+named = {w for f in pages for w in words(open(f).read())}
+cited = collections.Counter(w for text in antt.values() for w in words(re.sub(r'(?m)^\s*--.*', '', text)))
+for path, text in antt.items():
+    if not re.fullmatch(r'crates/\w+/proofs/\w+\.antt', path): continue
+    for m in re.finditer(r"(?m)^\s*(?:abbrev |unfoldable )?pub (?:record |data )?([^\s:(]+)\s*[:({]", text):
+        own = len(re.findall(rf'(?m)^\s*{re.escape(m[1])}(?=[ =])', text))
+        if 'pub mod' not in m[0] and cited[m[1]] <= 1 + own and m[1] not in named: found['8 laws that nothing cites'].append(f'{path}:{line(text, m.start(1))} {m[1]}')
 for name, places in found.items():
     print(f'{name}: {len(places)}')
     if verbose:
