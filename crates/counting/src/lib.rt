@@ -70,11 +70,14 @@ pub fn begin(words: &[u32], rows: u32, counts: &mut [u32])
 }
 
 // Copies as many words of the base's marks as `marks` has.
+// Not by copy_from_slice, which is a call of memmove: the C archive takes memcpy and memset from outside, and nothing else.
 fn copy_marks(counts: &[u32], marks: &mut [u32])
     requires { (length counts.now ≡ COUNT_WORDS) × (length marks.old ≤ MARK_WORDS) }
     ensures { marks.new ≡ take (length marks.old) counts.now }
 {
-    marks.copy_from_slice(&counts[..marks.len()]);
+    for (k, mark) in marks.iter_mut().enumerate() {
+        *mark = counts[k];
+    }
 }
 
 // Marks the rows that arrow a reaches, and counts those that were not marked.
